@@ -1,0 +1,4 @@
+pub mod Tests
+pub mod Lists
+pub mod Reasons
+pub mod Meaning

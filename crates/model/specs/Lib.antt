@@ -1,0 +1,7 @@
+pub mod Lists
+pub mod Bounds
+pub mod Words
+pub mod Soundness
+pub mod Reasons
+pub mod Records
+pub mod Profile
