@@ -1,0 +1,9 @@
+pub mod Book
+pub mod Receipts
+pub mod Interaction
+pub mod Admission
+pub mod Admissible
+pub mod Rules
+pub mod Protocol
+pub mod Lives
+pub mod Cases
