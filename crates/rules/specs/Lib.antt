@@ -6,4 +6,6 @@ pub mod Admissible
 pub mod Rules
 pub mod Protocol
 pub mod Lives
+pub mod Log
+pub mod Claim
 pub mod Cases

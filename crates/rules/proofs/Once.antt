@@ -1,0 +1,145 @@
+-- The parts of the claim that are read off the invariant: once, only submissions, live lease, free axis, book facts. Assumes nothing.
+use Prim.Native.Nat.{ℕ}
+use mathlib.Core.Bool.{Bool, true}
+use mathlib.Core.List.{List, [], _∷_, _++_, map, reverse}
+use mathlib.Core.Logic.{_⊎_, inl, inr}
+use mathlib.Core.Option.{Option, some, none}
+use mathlib.Core.Path.{_≡_, refl, sym, ap, _∙_, subst}
+use lib.IntN.{ℤ}
+use Rattle.model.specs.declared.Action.{Action}
+use Rattle.model.specs.declared.Lease.{Lease}
+use Rattle.model.specs.declared.Receipt.{Receipt}
+use Rattle.rules.specs.Book.{Book, leaseAt}
+use Rattle.rules.specs.Receipts.{Submission}
+use Rattle.rules.specs.Protocol.{Submit, Item, ItemObserve, ItemExecute, ItemRecord, Hands, Start, Phase, Starting, Gone, Idle, Waiting, waitBook, bookIn, start, react}
+use Rattle.rules.specs.Lives.{Life}
+use Rattle.rules.specs.Log.{History, phaseAt, outputAt, Event, Handed, Log, handed, arrived, extended, logOf, executed, executedBy, executedIn}
+use Rattle.rules.specs.Admissible.{Mem}
+use Rattle.rules.specs.Claim.{Distinct, Carried, Leased, Observing, Recording, BookFacts}
+use Rattle.rules.proofs.Safe.{Plain, SafePhase, at-wait, shows}
+use Rattle.rules.proofs.Invariant.{Inv, I, orders, held, Proper, Carry, plain-executed}
+use Rattle.rules.proofs.Calls.{invariant}
+
+-- nothing but the start was logged, or the invariant holds
+split : (s : Start) (l : Log) (p : Phase) → SafePhase s (I s) (I s) (λ l b a. I s l b) l p → Plain l ⊎ ((b : Book) × I s l b)
+split s l (Starting own axis rest good) h = inl (h .1 .0)
+split s l Gone h = inl h
+split s l (Idle b) h = inr (b, h)
+split s l (Waiting w) h = inr (waitBook w, at-wait (I s) (λ l b a. I s l b) l w h)
+
+pub holds : (s : Start) (h : History) (b : Book) → bookIn (phaseAt s h) ≡ some b → I s (logOf s h) b
+holds s h b e = shows s (I s) (λ l b a. I s l b) (logOf s h) (phaseAt s h) b (invariant s h) e
+
+pub book-facts : (s : Start) (h : History) (b : Book) → bookIn (phaseAt s h) ≡ some b → BookFacts (logOf s h) b
+book-facts s h b e =
+    let f = holds s h b e .0 in
+    record {
+      standing = λ axis x q. f .leasing .stands axis ∙ ap held q;
+      ended = λ axis q. f .leasing .stands axis ∙ ap held q;
+      last = λ axis x q. rw q at (f .leasing .last axis);
+      replay = f .ordered .replay;
+      receipts = f .counts .kept;
+      next = f .counts .next;
+      rising = f .counts .rising;
+      apart = f .ordered .apart;
+      least = f .counts .least;
+      most = f .counts .most;
+    }
+
+-- the newest event is the item that the newest output hands out
+newest : (s : Start) (h : History) (item : Item) → outputAt s h ≡ Hands item → (l : Log) × (logOf s h ≡ Handed item ∷ l)
+unfolding outputAt logOf extended handed
+newest s [] item e = ([], ap handed e)
+newest s (i ∷ past) item e =
+    let l = arrived i (react (phaseAt s past) i .output) ++ logOf s past in
+    (l, ap (λ o. handed o ++ l) e)
+
+-- what the invariant says of an item that was just handed out, if no start hands out its like
+carried : (s : Start) (h : History) (item : Item) → ((l : Log) → ¬ Plain (Handed item ∷ l)) → outputAt s h ≡ Hands item
+    → (l : Log) × (logOf s h ≡ Handed item ∷ l) × Carry s (Handed item ∷ l)
+carried s h item never e = (n .0, n .1, go (split s (logOf s h) (phaseAt s h) (invariant s h)))
+  where
+    n : (l : Log) × (logOf s h ≡ Handed item ∷ l)
+    n = newest s h item e
+
+    go : Plain (logOf s h) ⊎ ((b : Book) × I s (logOf s h) b) → Carry s (Handed item ∷ n .0)
+    go (inl plain) = absurd (never (n .0) (subst Plain (n .1) plain))
+    go (inr r) = subst (λ l. Carry s l) (n .1) (r .1 .1)
+
+pub observes : (s : Start) (h : History) (axis : ℕ) → outputAt s h ≡ Hands (ItemObserve axis)
+    → (l : Log) × (logOf s h ≡ Handed (ItemObserve axis) ∷ l) × Observing s l axis
+observes s h axis e = carried s h (ItemObserve axis) (λ l p. p) e
+
+pub records : (s : Start) (h : History) (r : Receipt) → outputAt s h ≡ Hands (ItemRecord r)
+    → (l : Log) × (logOf s h ≡ Handed (ItemRecord r) ∷ l) × Recording l r
+records s h r e = carried s h (ItemRecord r) (λ l p. p) e
+
+proper : (s : Start) (h : History) (c : ℕ) (p : List ℤ) → outputAt s h ≡ Hands (ItemExecute c p) → Proper s (logOf s h) c p
+proper s h c p e = let q = carried s h (ItemExecute c p) (λ l k. k) e in subst (λ l. Proper s l c p) (sym (q .1)) (q .2)
+
+pub only-submissions : (s : Start) (h : History) (c : ℕ) (p : List ℤ) → outputAt s h ≡ Hands (ItemExecute c p) → Carried (logOf s h) c p
+only-submissions s h c p e = proper s h c p e .0
+
+submit-same : {a b : Submission} → some (Submit a) ≡ some (Submit b) → a ≡ b
+submit-same e = cc
+
+pub live-lease : (s : Start) (h : History) (c : ℕ) (p : List ℤ) → outputAt s h ≡ Hands (ItemExecute c p)
+    → (k : Carried (logOf s h) c p) → Leased s (logOf s h) (k .submission)
+live-lease s h c p e k =
+    let q = proper s h c p e in
+    subst (λ o. Leased s (logOf s h) o) (submit-same (sym (q .0 .call) ∙ k .call)) (q .1)
+
+-- the orders of one life -------------------------------------------------------------------------------------------------
+
+distinct : (s : Start) (h : History) → Distinct (orders (executed (logOf s h)))
+distinct s h = go (split s (logOf s h) (phaseAt s h) (invariant s h))
+  where
+    go : Plain (logOf s h) ⊎ ((b : Book) × I s (logOf s h) b) → Distinct (orders (executed (logOf s h)))
+    go (inl plain) = rw (plain-executed (logOf s h) plain) tt
+    go (inr r) = r .1 .0 .ordered .distinct
+
+home : (s : Start) (h : History) (o : Action) → Mem o (orders (executed (logOf s h))) → o .«boot_id» ≡ s .bootId
+home s h o = go (split s (logOf s h) (phaseAt s h) (invariant s h))
+  where
+    go : Plain (logOf s h) ⊎ ((b : Book) × I s (logOf s h) b) → Mem o (orders (executed (logOf s h))) → o .«boot_id» ≡ s .bootId
+    go (inl plain) = rw (plain-executed (logOf s h) plain) (λ m. absurd m)
+    go (inr r) = r .1 .0 .ordered .home o
+
+-- over all lives ---------------------------------------------------------------------------------------------------------
+
+mem-append : (o : Action) (xs ys : List Action) → Mem o (xs ++ ys) → Mem o xs ⊎ Mem o ys
+mem-append o [] ys m = inr m
+mem-append o (x ∷ xs) ys (inl e) = inl (inl e)
+mem-append o (x ∷ xs) ys (inr m) = go (mem-append o xs ys m)
+  where
+    go : Mem o xs ⊎ Mem o ys → ((o ≡ x) ⊎ Mem o xs) ⊎ Mem o ys
+    go (inl n) = inl (inr n)
+    go (inr n) = inr n
+
+distinct-append : (xs ys : List Action) → Distinct xs → Distinct ys → ((o : Action) → Mem o xs → ¬ Mem o ys) → Distinct (xs ++ ys)
+distinct-append [] ys d e h = e
+distinct-append (x ∷ xs) ys d e h = (λ m. go (mem-append x xs ys m), distinct-append xs ys (d .1) e (λ o m. h o (inr m)))
+  where
+    go : Mem x xs ⊎ Mem x ys → ⊥
+    go (inl m) = d .0 m
+    go (inr m) = h x (inl refl) m
+
+abbrev boots : List Life → List ℕ
+boots ls = map (λ l. l .start .bootId) ls
+
+boot-of : (ls : List Life) (o : Action) → Mem o (executedIn ls) → Mem (o .«boot_id») (boots ls)
+unfolding executedIn
+boot-of [] o m = m
+boot-of (l ∷ ls) o m = go (mem-append o (executedBy l) (executedIn ls) m) (boot-of ls o)
+  where
+    go : Mem o (executedBy l) ⊎ Mem o (executedIn ls) → (Mem o (executedIn ls) → Mem (o .«boot_id») (boots ls))
+        → (o .«boot_id» ≡ l .start .bootId) ⊎ Mem (o .«boot_id») (boots ls)
+    go (inl n) rest = inl (home (l .start) (reverse (l .inputs)) o n)
+    go (inr n) rest = inr (rest n)
+
+pub once : (ls : List Life) → Distinct (boots ls) → Distinct (executedIn ls)
+unfolding executedIn
+once [] d = tt
+once (l ∷ ls) d =
+    distinct-append (executedBy l) (executedIn ls) (distinct (l .start) (reverse (l .inputs))) (once ls (d .1))
+    (λ o m n. d .0 (subst (λ b. Mem b (boots ls)) (home (l .start) (reverse (l .inputs)) o m) (boot-of ls o n)))
