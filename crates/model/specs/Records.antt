@@ -1,6 +1,5 @@
 -- The default configuration (model.rs, `Config::default`), and what an absent slot holds.
-use Prim.Native.Nat.{ℕ}
-use mathlib.Core.List.{List, [], _∷_}
+use mathlib.Core.List.{[], _∷_}
 use lib.IntN.{pos}
 use Rattle.model.specs.declared.Config.{Config}
 use Rattle.model.specs.declared.Bounds.{Bounds}

@@ -1,13 +1,12 @@
 -- The first failing check of `submit` is none exactly when the order is admissible: each of 01's 17 conditions holds, stated plainly.
 -- Assumes nothing.
-use Prim.Native.Nat.{ℕ, _+_, _-_, _^_, _≤_, _<_}
-use mathlib.Core.Bool.{Bool, true, false, cond, not, _&&_, _||_}
-use mathlib.Core.List.{List, [], _∷_, _++_}
-use mathlib.Core.Logic.{_⊎_, inl, inr, ⊎-elim, _≢_, _↔_}
-use mathlib.Core.Option.{Option, some, none}
-use mathlib.Core.Path.{_≡_, refl, sym, ap, _∙_, subst}
-use native.Mathlib.Omega.{arith}
-use borrow.Author.Tests.{ltb-true, leb-true, leb-false, ltb-false, eqb-true, eqb-false, lt-ltb, le-leb, lt-leb, le-ltb, eq-eqb, ne-eqb, not-true, not-false}
+use Prim.Native.Nat.{ℕ, _^_, _≤_, _<_}
+use mathlib.Core.Bool.{Bool, true, false, cond, not, _&&_, false≢true}
+use mathlib.Core.List.{List, [], _∷_}
+use mathlib.Core.Logic.{inl, inr, _≢_, _↔_}
+use mathlib.Core.Option.{Option, some, none, Option·some-ne-none}
+use mathlib.Core.Path.{_≡_, refl, sym, ap, _∙_}
+use borrow.Author.Tests.{ltb-true, leb-true, leb-false, ltb-false, eqb-true, eqb-false, lt-ltb, le-leb, lt-leb, le-ltb, eq-eqb, ne-eqb, not-true}
 use lib.Bits.{bitAnd}
 use lib.Dec.{leb, ltb, eqb}
 use lib.IntN.{ℤ}
@@ -18,11 +17,12 @@ use Rattle.model.specs.declared.Replay.{Replay}
 use Rattle.model.specs.declared.RuntimeState.{RuntimeState}
 use Rattle.model.specs.declared.RuntimeState.the-variants as State
 use Rattle.model.specs.Bounds.{contains}
-use Rattle.model.specs.Words.{shareNoBit, permits}
+use Rattle.model.specs.Words.{shareNoBit}
 use Rattle.model.proofs.Tests.{and-when, and-both}
 use Rattle.model.proofs.Meaning.{contains-means, means-contains, permits-means, means-permits}
+use Rattle.rules.proofs.Basics.{neither}
 use Rattle.rules.specs.Book.{Book, leaseAt}
-use Rattle.rules.specs.Receipts.{top, Submission}
+use Rattle.rules.specs.Receipts.{Submission}
 use Rattle.rules.specs.Admission.{Check, firstFailing, holdsOf, isSome, isEstopped, isFaulted, isStale, ready, badDuration, orderCapability, leaseFor, orderLease, hasBit, authorizes, wellFormed, isEntry, findEntry, replayed, validUntil, allContain, admission}
 use Rattle.rules.specs.Admissible.{Mem, Inside, Admissible}
 
@@ -32,18 +32,6 @@ abbrev pub AllHold : List Check → Type 0
 AllHold [] = Unit
 AllHold (c ∷ cs) = (c .holds ≡ true) × AllHold cs
 
-apart : {A : Type 0} → false ≡ true → A
-apart e = absurd (zero-one (cc))
-  where
-    zero-one : _≡_ {A = ℕ} 0 1 → ⊥
-    zero-one z = omega arith
-
-some-none : {A B : Type 0} {a : A} → some a ≡ none → B
-some-none e = absurd (zero-one (cc))
-  where
-    zero-one : _≡_ {A = ℕ} 0 1 → ⊥
-    zero-one z = omega arith
-
 pub none-fails : (cs : List Check) → firstFailing cs ≡ none → AllHold cs
 unfolding firstFailing
 none-fails [] e = tt
@@ -52,7 +40,7 @@ none-fails (c ∷ cs) e = go (c .holds) refl e (none-fails cs)
     go : (t : Bool) → c .holds ≡ t → cond t (firstFailing cs) (some (c .reason)) ≡ none
         → (firstFailing cs ≡ none → AllHold cs) → (c .holds ≡ true) × AllHold cs
     go true h f rest = (h, rest f)
-    go false h f rest = some-none f
+    go false h f rest = absurd (Option·some-ne-none _ f)
 
 pub fails-none : (cs : List Check) → AllHold cs → firstFailing cs ≡ none
 unfolding firstFailing
@@ -63,7 +51,7 @@ fails-none (c ∷ cs) h = rw (h .0) (fails-none cs (h .1))
 
 some-of : {A : Type 0} (o : Option A) → isSome o ≡ true → (a : A) × (o ≡ some a)
 unfolding isSome
-some-of none e = apart e
+some-of none e = absurd (false≢true e)
 some-of (some a) e = (a, refl)
 
 is-some : {A : Type 0} {o : Option A} {a : A} → o ≡ some a → isSome o ≡ true
@@ -72,7 +60,7 @@ is-some e = rw e
 
 held-of : {A : Type 0} (o : Option A) (test : A → Bool) → holdsOf o test ≡ true → (a : A) × (o ≡ some a)
 unfolding holdsOf
-held-of none test e = apart e
+held-of none test e = absurd (false≢true e)
 held-of (some a) test e = (a, refl)
 
 held-at : {A : Type 0} {o : Option A} {a : A} (test : A → Bool) → o ≡ some a → holdsOf o test ≡ true → test a ≡ true
@@ -85,7 +73,7 @@ at-held test e h = rw e h
 
 not-estopped : (x : RuntimeState) → not (isEstopped x) ≡ true → x ≢ State.Estopped
 unfolding isEstopped
-not-estopped x h e = apart (rw e at h)
+not-estopped x h e = absurd (false≢true (rw e at h))
 
 estopped-not : (x : RuntimeState) → x ≢ State.Estopped → not (isEstopped x) ≡ true
 unfolding isEstopped
@@ -96,7 +84,7 @@ estopped-not State.Estopped h = absurd (h refl)
 
 not-faulted : (x : RuntimeState) → not (isFaulted x) ≡ true → x ≢ State.Faulted
 unfolding isFaulted
-not-faulted x h e = apart (rw e at h)
+not-faulted x h e = absurd (false≢true (rw e at h))
 
 faulted-not : (x : RuntimeState) → x ≢ State.Faulted → not (isFaulted x) ≡ true
 unfolding isFaulted
@@ -111,14 +99,10 @@ nonzero n h = eqb-false n 0 (not-true _ h)
 zero-not : (n : ℕ) → n ≢ 0 → not (eqb n 0) ≡ true
 zero-not n h = ap not (ne-eqb n 0 h)
 
-or-false : (a b : Bool) → (a || b) ≡ false → (a ≡ false) × (b ≡ false)
-or-false true b e = apart (sym e)
-or-false false b e = (refl, e)
-
 duration-fits : (d limit : ℕ) → not (badDuration d limit) ≡ true → (d ≢ 0) × (d ≤ limit)
 unfolding badDuration
 duration-fits d limit h =
-    let k = or-false (eqb d 0) (ltb limit d) (not-true _ h) in
+    let k = neither (eqb d 0) (ltb limit d) (not-true _ h) in
     (eqb-false d 0 (k .0), ltb-false limit d (k .1))
 
 fits-duration : (d limit : ℕ) → d ≢ 0 → d ≤ limit → not (badDuration d limit) ≡ true
@@ -146,7 +130,7 @@ Unused owner action es = (e : Replay) → Mem e es → e .owner ≡ owner → e 
 
 missed : (x : Replay) (t : Bool) (o : Option Replay) → isSome (cond t (some x) o) ≡ false → (t ≡ false) × (isSome o ≡ false)
 unfolding isSome
-missed x true o h = apart (sym h)
+missed x true o h = absurd (false≢true (sym h))
 missed x false o h = (refl, h)
 
 is-entry : (owner action : ℕ) (x : Replay) → x .owner ≡ owner → x .«action_id» ≡ action → isEntry owner action x ≡ true
@@ -163,7 +147,9 @@ unused : (owner action : ℕ) (es : List Replay) → isSome (findEntry owner act
 unfolding findEntry
 unused owner action [] h e m p q = absurd m
 unused owner action (x ∷ es) h e (inl same) p q =
-    apart (sym (missed x (isEntry owner action x) (findEntry owner action es) h .0) ∙ is-entry owner action x (rw same at p) (rw same at q))
+    absurd
+    (false≢true
+    (sym (missed x (isEntry owner action x) (findEntry owner action es) h .0) ∙ is-entry owner action x (rw same at p) (rw same at q)))
 unused owner action (x ∷ es) h e (inr m) p q = unused owner action es (missed x (isEntry owner action x) (findEntry owner action es) h .1) e m p q
 
 not-entry : (owner action : ℕ) (x : Replay) (es : List Replay) (t : Bool) → isEntry owner action x ≡ t

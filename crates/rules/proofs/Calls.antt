@@ -1,17 +1,15 @@
 -- Every call keeps the invariant: one lemma for each. Assumes nothing.
-use Prim.Native.Nat.{ℕ, zero, suc, _+_, _<_, _≤_, _^_, max}
+use Prim.Native.Nat.{ℕ, zero, suc, _<_, _≤_, _^_}
 use mathlib.Core.Bool.{Bool, true, false, cond, not, _&&_, _||_, false≢true}
-use mathlib.Core.List.{List, [], _∷_, _++_, map, reverse}
+use mathlib.Core.List.{List, [], _∷_, map, reverse}
 use mathlib.Core.Logic.{_⊎_, inl, inr, _≢_}
 use mathlib.Core.Option.{Option, some, none, Option·none-ne-some, Option·some-injective}
 use mathlib.Core.Path.{_≡_, refl, sym, ap, _∙_, subst}
 use native.Mathlib.Omega.{arith}
 use borrow.Author.Tests.{eqb-true, eqb-false, eq-eqb}
-use lib.Bits.{bitAnd, bitOr}
+use lib.Bits.{bitAnd}
 use lib.Dec.{eqb, ltb, leb}
-use lib.IntN.{ℤ}
 use lib.ListN.{set, take}
-use Rattle.model.specs.declared.Active.{Active}
 use Rattle.model.specs.declared.Capability.{Capability}
 use Rattle.model.specs.declared.Decision.the-variants as Decision
 use Rattle.model.specs.declared.Lease.{Lease}
@@ -26,16 +24,16 @@ use Rattle.model.specs.Reasons.{number}
 use Rattle.model.specs.Soundness.{axisUsed}
 use Rattle.model.specs.Words.{permits}
 use Rattle.model.proofs.Tests.{and-both}
-use Rattle.rules.specs.Book.{Book, leaseAt, activeAt, withLeases, withActive, withReceipts, withNextReceipt, withNextLease, withEpoch, withFlags, withStateAt, withLastTick, withState, withInvalidCount, withEstopSeen}
-use Rattle.rules.specs.Receipts.{top, bumpTo, bump, kept, numbered, event, Submission, Progress, notSent, orderReceipt}
-use Rattle.rules.specs.Interaction.{Answer, Returned, Polled, Succeeded, Refused, Submitted, Interaction, Done, Observe, Execute, Fallback, Record}
-use Rattle.rules.specs.Admission.{firstFailing, holdsOf, isArmed, isEstopped, isFaulted, isStale, ready, isFree, validRequest, axes, acquireChecks, Renewal, renewChecks, heldAxis, leaseOn, heldLease, withId, orderCapability, orderLease, Verdict, Admits, Rejects, verdict, validate, admission}
-use Rattle.rules.specs.Admissible.{Mem, Admissible}
-use Rattle.rules.specs.Rules.{usedAxes, bumpEpoch, recordReceipt, refreshState, cleared, fallback, tripped, trip, fallbackOrTrip, exhausted, tick, preconditions, meetsEstop, newFlags, sense, updateState, emergencyStop, pollEstop, recovered, recoveries, recover, recoverLocal, newLease, granted, leased, grant, acquire, extended, extend, renewed, renew, canceled, cancel, original, storm, reject, consumed, fail, activeUntil, complete, verified, verify, dispatch, admit, submit}
-use Rattle.rules.specs.Protocol.{Call, Tick, UpdateState, EmergencyStop, PollEstop, RecoverLocal, Acquire, Renew, Cancel, Submit, Reply, Observed, Executed, FellBack, Recorded, Item, ItemObserve, ItemExecute, ItemFallback, ItemRecord, Start, begin}
-use Rattle.rules.specs.Log.{History, phaseAt, Event, Took, Replied, Handed, Log, logOf, callOf, submissionOf, reaching, executed, nextNumber, observing, Admitted, admittedAs, admitting, admissions, entryOf, highest, isControl, isGrant, live, holding, leastEpoch, mostEpoch, epochTaken, epochAfter, afterFallback}
+use Rattle.rules.specs.Book.{Book, leaseAt, activeAt, withLeases, withActive, withReceipts, withNextReceipt, withNextLease, withEpoch, withFlags, withStateAt, withLastTick, withState, withEstopSeen}
+use Rattle.rules.specs.Receipts.{bump, kept, numbered, event, Submission, Progress, notSent, orderReceipt}
+use Rattle.rules.specs.Interaction.{Answer, Returned, Polled, Succeeded, Refused, Submitted, Interaction, Done, Observe}
+use Rattle.rules.specs.Admission.{firstFailing, holdsOf, isArmed, isEstopped, isFaulted, isStale, ready, isFree, validRequest, axes, acquireChecks, Renewal, heldAxis, leaseOn, heldLease, withId, orderCapability, orderLease, verdict, validate, admission}
+use Rattle.rules.specs.Admissible.{Mem}
+use Rattle.rules.specs.Rules.{usedAxes, bumpEpoch, recordReceipt, refreshState, cleared, fallback, trip, fallbackOrTrip, exhausted, tick, preconditions, meetsEstop, newFlags, sense, updateState, emergencyStop, pollEstop, recovered, recoveries, recover, recoverLocal, newLease, granted, leased, grant, acquire, extended, extend, renewed, renew, canceled, cancel, storm, reject, consumed, fail, complete, verified, verify, dispatch, admit, submit}
+use Rattle.rules.specs.Protocol.{Call, Tick, UpdateState, EmergencyStop, PollEstop, RecoverLocal, Acquire, Renew, Cancel, Submit, Reply, Observed, Executed, Recorded, ItemObserve, ItemExecute, ItemFallback, ItemRecord, Start, begin}
+use Rattle.rules.specs.Log.{History, phaseAt, Took, Replied, Handed, Log, logOf, callOf, submissionOf, reaching, executed, nextNumber, observing, Admitted, admittedAs, admitting, admissions, entryOf, highest, isControl, isGrant, live, holding, mostEpoch, epochTaken, epochAfter, afterFallback}
 use Rattle.rules.specs.Claim.{Leased, Observing, tenancyIn}
-use Rattle.rules.proofs.Admission.{AllHold, none-fails, admitted-exactly, lease-on}
+use Rattle.rules.proofs.Admission.{none-fails, admitted-exactly, lease-on}
 use Rattle.rules.proofs.Safe.{Safe, SafePhase, always}
 use Rattle.rules.proofs.Keeps.{keeps-record, keeps-fallback, keeps-trip, keeps-fallback-or-trip, isReady, Guarded, Settled, Unexpired, keeps-tick}
 use Rattle.rules.proofs.Counters.{bump-mono}

@@ -1,13 +1,13 @@
 -- The invariant of log and book, and that every step on the book keeps it. It is a record over what the log and the book say (orders
 -- executed and admitted, live leases, ..), so that a step which touches none of it is the identity. Assumes nothing.
 use Prim.Native.Nat.{ℕ, zero, suc, _+_, _<_, _≤_}
-use mathlib.Core.Bool.{Bool, true, false, cond, _&&_, _||_, false≢true}
-use mathlib.Core.List.{List, [], _∷_, _++_, map}
-use mathlib.Core.Logic.{_⊎_, inl, inr, _≢_}
-use mathlib.Core.Option.{Option, some, none}
+use mathlib.Core.Bool.{Bool, true, false, cond, _||_, false≢true}
+use mathlib.Core.List.{List, [], _∷_, map}
+use mathlib.Core.Logic.{inl, inr, _≢_}
+use mathlib.Core.Option.{Option, some, none, Option·none-ne-some, Option·some-injective}
 use mathlib.Core.Path.{_≡_, refl, sym, ap, _∙_, subst}
 use native.Mathlib.Omega.{arith}
-use borrow.Author.Tests.{eqb-true, eqb-false, eq-eqb, ne-eqb}
+use borrow.Author.Tests.{eqb-true, eq-eqb, ne-eqb}
 use lib.Dec.{eqb}
 use lib.IntN.{ℤ}
 use lib.ListN.{length, length-set, getD, set, take, replicate}
@@ -27,8 +27,8 @@ use Rattle.rules.specs.Book.{Book, leaseAt, withLeases, withActive, with
 use Rattle.rules.specs.Receipts.{top, bump, receiptCapacity, keep, kept, Submission}
 use Rattle.rules.specs.Admission.{Renewal}
 use Rattle.rules.specs.Rules.{replayCapacity, bumpEpoch, cleared, refreshState, newLease, granted, extended, withSequence, consumed}
-use Rattle.rules.specs.Protocol.{Call, Tick, UpdateState, EmergencyStop, PollEstop, RecoverLocal, Acquire, Renew, Cancel, Submit, Reply, Item, ItemObserve, ItemExecute, ItemFallback, ItemRecord, Start, opening, refusedStart}
-use Rattle.rules.specs.Log.{Event, Took, Replied, Handed, Log, callOf, submissionOf, reaching, executed, counted, nextNumber, keptAfter, receiptsOf, observing, Admitted, admittedAs, admitting, admissions, entryOf, highest, Tenancy, tenancyOf, until, renewedBy, isControl, isGrant, recordedOn, holding, live, afterFallback, epochAfter, leastEpoch, epochTaken, mostEpoch}
+use Rattle.rules.specs.Protocol.{Call, Tick, UpdateState, EmergencyStop, PollEstop, RecoverLocal, Acquire, Renew, Cancel, Submit, Reply, ItemObserve, ItemExecute, ItemFallback, ItemRecord, Start, opening, refusedStart}
+use Rattle.rules.specs.Log.{Took, Replied, Handed, Log, callOf, submissionOf, reaching, executed, counted, nextNumber, keptAfter, receiptsOf, observing, Admitted, admittedAs, admitting, admissions, entryOf, highest, Tenancy, tenancyOf, until, renewedBy, isControl, isGrant, recordedOn, holding, live, afterFallback, epochAfter, leastEpoch, epochTaken, mostEpoch}
 use Rattle.rules.specs.Admissible.{Mem}
 use Rattle.rules.specs.Claim.{Distinct, Carried, Leased, Observing, Recording, tenancyIn, Rising, Name, nameOf}
 use Rattle.rules.proofs.Soundness.{sound-start}
@@ -275,9 +275,6 @@ inv-recorded s r l b quiet id h =
       },
     )
 
-none≢some : {x : Lease} → none ≡ some x → ⊥
-none≢some e = let z : _≡_ {A = ℕ} 0 1 = cc in omega arith
-
 -- ---- a fallback ends the lease of its axis
 
 leases-fallen : (A : List Admitted) (L : ℕ → Option Tenancy) (ls : List (Option Lease)) (n axis : ℕ) → Leases A L ls n
@@ -289,8 +286,8 @@ leases-fallen A L ls n axis f =
       below = λ i. at-set none (IdBelow n) ls axis none i (λ e. tt) (λ m. f .below i);
       unique = λ i j x y.
           at-set none (λ o. o ≡ some x → getD (set ls axis none) j none ≡ some y → x .id ≡ y .id → i ≡ j) ls axis none i
-          (λ e p. absurd (none≢some p))
-          (λ m p. at-set none (λ o. o ≡ some y → x .id ≡ y .id → i ≡ j) ls axis none j (λ e q. absurd (none≢some q)) (λ k q. f .unique i j x y p q));
+          (λ e p. absurd (Option·none-ne-some _ p))
+          (λ m p. at-set none (λ o. o ≡ some y → x .id ≡ y .id → i ≡ j) ls axis none j (λ e q. absurd (Option·none-ne-some _ q)) (λ k q. f .unique i j x y p q));
       stands = λ i. at-set none (λ o. cond (eqb axis i) none (L i) ≡ held o) ls axis none i
           (λ e. rw (eq-eqb axis i (sym e)))
           (λ m. ended i (eqb axis i) refl m (f .stands i));
@@ -321,9 +318,6 @@ inv-fallen s axis reason c l b call h =
 
 -- ---- leases of one number
 
-some-same : {x y : Lease} → some x ≡ some y → x ≡ y
-some-same e = cc
-
 below-at : (n : ℕ) (o : Option Lease) (y : Lease) → o ≡ some y → IdBelow n o → y .id < n
 below-at n o y e h = rw e at h
 
@@ -336,9 +330,9 @@ unique-new ls axis n v id below unique i j x y =
     at-set none (λ o. o ≡ some x → getD (set ls axis (some v)) j none ≡ some y → x .id ≡ y .id → i ≡ j) ls axis (some v) i
     (λ e p. at-set none (λ o. o ≡ some y → x .id ≡ y .id → i ≡ j) ls axis (some v) j
     (λ e′ q k. e ∙ sym e′)
-    (λ m q k. absurd (omega (arith, below-at n (getD ls j none) y q (below j), ap (λ (z : Lease). z .id) (some-same p)))))
+    (λ m q k. absurd (omega (arith, below-at n (getD ls j none) y q (below j), ap (λ (z : Lease). z .id) (Option·some-injective _ _ p)))))
     (λ m p. at-set none (λ o. o ≡ some y → x .id ≡ y .id → i ≡ j) ls axis (some v) j
-    (λ e q k. absurd (omega (arith, below-at n (getD ls i none) x p (below i), ap (λ (z : Lease). z .id) (some-same q))))
+    (λ e q k. absurd (omega (arith, below-at n (getD ls i none) x p (below i), ap (λ (z : Lease). z .id) (Option·some-injective _ _ q))))
     (λ m′ q k. unique i j x y p q k))
 
 -- a lease with the number of the one that it takes the place of
@@ -347,9 +341,9 @@ unique-same ls axis u v at id unique i j x y =
     at-set none (λ o. o ≡ some x → getD (set ls axis (some v)) j none ≡ some y → x .id ≡ y .id → i ≡ j) ls axis (some v) i
     (λ e p. at-set none (λ o. o ≡ some y → x .id ≡ y .id → i ≡ j) ls axis (some v) j
     (λ e′ q k. e ∙ sym e′)
-    (λ m q k. e ∙ unique axis j u y at q (sym id ∙ ap (λ (z : Lease). z .id) (some-same p) ∙ k)))
+    (λ m q k. e ∙ unique axis j u y at q (sym id ∙ ap (λ (z : Lease). z .id) (Option·some-injective _ _ p) ∙ k)))
     (λ m p. at-set none (λ o. o ≡ some y → x .id ≡ y .id → i ≡ j) ls axis (some v) j
-    (λ e q k. unique i axis x u p at (k ∙ sym (ap (λ (z : Lease). z .id) (some-same q)) ∙ id) ∙ sym e)
+    (λ e q k. unique i axis x u p at (k ∙ sym (ap (λ (z : Lease). z .id) (Option·some-injective _ _ q)) ∙ id) ∙ sym e)
     (λ m′ q k. unique i j x y p q k))
 
 -- ---- a grant: the lease number is new
@@ -451,7 +445,7 @@ inv-renewed s r axis renewal x l b g at call h =
 
     other : (i : ℕ) (t : Bool) → eqb (r .resource) i ≡ t → (i ≡ axis → getD (b .leases) i none ≡ none)
         → cond t (cond (isGrant r) (tenancyOf (r .«lease_id») (callOf l)) (renewedBy (callOf l) (live i l))) (live i l) ≡ held (getD (b .leases) i none)
-    other i true e m = absurd (none≢some (sym (m (same i e)) ∙ ap (λ (j : ℕ). getD (b .leases) j none) (same i e) ∙ at))
+    other i true e m = absurd (Option·none-ne-some _ (sym (m (same i e)) ∙ ap (λ (j : ℕ). getD (b .leases) j none) (same i e) ∙ at))
     other i false e m = h .0 .leasing .stands i
 
 -- ---- an order is admitted as its first observe item is handed out
@@ -731,7 +725,7 @@ inv-opening s l plain sound = (
               eight = refl;
               fits = omega arith;
               below = λ i. rw (no-lease 8 i) tt;
-              unique = λ i j x y p q. absurd (none≢some (sym (no-lease 8 i) ∙ p));
+              unique = λ i j x y p q. absurd (Option·none-ne-some _ (sym (no-lease 8 i) ∙ p));
               stands = λ i. plain-live i l plain ∙ sym (ap held (no-lease 8 i));
               known = λ a m. absurd m;
               last = λ i. rw (no-lease 8 i) tt;

@@ -1,17 +1,16 @@
 -- One lemma for each rule that calls share, for every invariant at once: where the invariant holds and what follows keeps it, the rule
 -- keeps it. `keeps-tick` also says what a tick leaves where the runtime is ready. Assumes nothing.
 use Prim.Native.Nat.{ℕ, zero, suc, _-_, _<_, _≤_}
-use mathlib.Core.Bool.{Bool, true, false, cond, not, _&&_, _||_, false≢true, true≢false}
-use mathlib.Core.List.{List, [], _∷_, _++_, reverse, reverseAux}
-use mathlib.Core.Logic.{_⊎_, inl, inr, _≢_}
-use mathlib.Core.Option.{Option, some, none}
-use mathlib.Core.Path.{_≡_, refl, sym, ap, _∙_, subst}
+use mathlib.Core.Bool.{Bool, true, false, cond, _&&_, _||_, false≢true}
+use mathlib.Core.List.{List, [], _∷_, reverse, reverseAux}
+use mathlib.Core.Logic.{inl, inr, _≢_}
+use mathlib.Core.Option.{Option, some, none, Option·some-ne-none}
+use mathlib.Core.Path.{_≡_, refl, sym, ap, _∙_}
 use native.Mathlib.Omega.{arith}
-use borrow.Author.Tests.{leb-false, ltb-false, eqb-false}
+use borrow.Author.Tests.{leb-false, eqb-false}
 use lib.Dec.{ltb, leb, eqb}
 use lib.ListN.{length, getD, set}
 use Rattle.model.specs.declared.Active.{Active}
-use Rattle.model.specs.declared.Decision.the-variants as Decision
 use Rattle.model.specs.declared.Lease.{Lease}
 use Rattle.model.specs.declared.Reason.{Reason}
 use Rattle.model.specs.declared.Reason.the-variants as Reason
@@ -21,13 +20,14 @@ use Rattle.model.specs.declared.RuntimeState.the-variants as State
 use Rattle.model.specs.Lists.{any}
 use Rattle.model.specs.Reasons.{number}
 use Rattle.rules.specs.Book.{Book, leaseAt, activeAt, withLeases, withActive, withReceipts, withNextReceipt, withEpoch, withLastTick, withState}
-use Rattle.rules.specs.Receipts.{top, numbered, kept, event, isFallback}
-use Rattle.rules.specs.Interaction.{Answer, Interaction, Done, Observe, Execute, Fallback, Record}
+use Rattle.rules.specs.Receipts.{top, numbered, kept, event}
+use Rattle.rules.specs.Interaction.{Answer, Interaction}
 use Rattle.rules.specs.Admission.{holdsOf, isSome, isArmed, isEstopped, isStale, axes}
-use Rattle.rules.specs.Rules.{usedAxes, bumpEpoch, recordReceipt, refreshed, refreshState, cleared, leaseId, leaseOwner, fallback, tripped, fallbacks, trip, fallbackOrTrip, exhausted, watchdog, staleness, due, fallbackIf, expiries, supervise, tick}
-use Rattle.rules.specs.Protocol.{Reply, Observed, Executed, FellBack, Recorded, Item, ItemObserve, ItemExecute, ItemFallback, ItemRecord}
-use Rattle.rules.specs.Log.{Event, Took, Replied, Handed, Log, isControl}
+use Rattle.rules.specs.Rules.{usedAxes, bumpEpoch, recordReceipt, refreshed, refreshState, cleared, fallback, tripped, fallbacks, trip, fallbackOrTrip, exhausted, watchdog, staleness, due, fallbackIf, expiries, supervise, tick}
+use Rattle.rules.specs.Protocol.{Reply, FellBack, Recorded, ItemFallback, ItemRecord}
+use Rattle.rules.specs.Log.{Replied, Handed, Log, isControl}
 use Rattle.rules.specs.Admissible.{Mem}
+use Rattle.rules.proofs.Basics.{neither}
 use Rattle.rules.proofs.Safe.{Safe}
 
 -- ---- an element after a store
@@ -166,10 +166,7 @@ not-due now (some x) active e = go (leb (x .«expires_at») now) refl e
     go : (t : Bool) → leb (x .«expires_at») now ≡ t
         → cond t (some Reason.LeaseExpired) (cond (holdsOf active (λ a. leb (a .«expires_at») now)) (some Reason.StreamExpired) none) ≡ none
         → now < x .«expires_at»
-    go true h e = absurd (clash (cc))
-      where
-        clash : _≡_ {A = ℕ} 0 1 → ⊥
-        clash z = omega arith
+    go true h e = absurd (Option·some-ne-none _ e)
     go false h e = leb-false _ _ h
 
 settled-next : (now : ℕ) (d : List ℕ) (axis : ℕ) (b : Book) → due now (leaseAt b axis) (activeAt b axis) ≡ none → Settled now d b → Settled now (axis ∷ d) b
@@ -181,10 +178,6 @@ settled-next now d axis b e h = record { left = h .left; clock = h .clock; fresh
 
 below-top : (n : ℕ) → n ≤ top → (n ≡ top → ⊥) → n < top
 below-top n h k = omega (arith, k)
-
-or-false : (a b : Bool) → (a || b) ≡ false → (a ≡ false) × (b ≡ false)
-or-false true b e = absurd (true≢false e)
-or-false false b e = (refl, e)
 
 -- ---- the tick
 
@@ -320,7 +313,7 @@ module _ (W : Log → Book → Type 0) (D : Log → Book → Answer → Type 0) 
   unfolding exhausted
   not-exhausted b e h =
       below-top (b .nextLease) h
-      (eqb-false _ _ (or-false (eqb (b .nextReceipt) top) _ (or-false (eqb (b .epoch) top) _ e .1) .1))
+      (eqb-false _ _ (neither (eqb (b .nextReceipt) top) _ (neither (eqb (b .epoch) top) _ e .1) .1))
 
   pub keeps-tick : (now : ℕ) (l : Log) (b : Book) (next : Book → Interaction) → J l b
       → ((l′ : Log) (b′ : Book) → J l′ b′ → Guarded (Settled now (reverse axes)) b′ → Safe W D l′ (next b′)) → Safe W D l (tick now b next)

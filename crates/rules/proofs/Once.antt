@@ -1,23 +1,21 @@
 -- The parts of the claim that are read off the invariant: once, only submissions, live lease, free axis, book facts. Assumes nothing.
 use Prim.Native.Nat.{ℕ}
-use mathlib.Core.Bool.{Bool, true}
 use mathlib.Core.List.{List, [], _∷_, _++_, map, reverse}
 use mathlib.Core.Logic.{_⊎_, inl, inr}
-use mathlib.Core.Option.{Option, some, none}
+use mathlib.Core.Option.{some}
 use mathlib.Core.Path.{_≡_, refl, sym, ap, _∙_, subst}
 use lib.IntN.{ℤ}
 use Rattle.model.specs.declared.Action.{Action}
-use Rattle.model.specs.declared.Lease.{Lease}
 use Rattle.model.specs.declared.Receipt.{Receipt}
-use Rattle.rules.specs.Book.{Book, leaseAt}
+use Rattle.rules.specs.Book.{Book}
 use Rattle.rules.specs.Receipts.{Submission}
 use Rattle.rules.specs.Protocol.{Submit, Item, ItemObserve, ItemExecute, ItemRecord, Hands, Start, Phase, Starting, Gone, Idle, Waiting, waitBook, bookIn, start, react}
 use Rattle.rules.specs.Lives.{Life}
-use Rattle.rules.specs.Log.{History, phaseAt, outputAt, Event, Handed, Log, handed, arrived, extended, logOf, executed, executedBy, executedIn}
+use Rattle.rules.specs.Log.{History, phaseAt, outputAt, Handed, Log, handed, arrived, extended, logOf, executed, executedBy, executedIn}
 use Rattle.rules.specs.Admissible.{Mem}
 use Rattle.rules.specs.Claim.{Distinct, Carried, Leased, Observing, Recording, BookFacts}
 use Rattle.rules.proofs.Safe.{Plain, SafePhase, at-wait, shows}
-use Rattle.rules.proofs.Invariant.{Inv, I, orders, held, Proper, Carry, plain-executed}
+use Rattle.rules.proofs.Invariant.{I, orders, held, Proper, Carry, plain-executed}
 use Rattle.rules.proofs.Calls.{invariant}
 
 -- nothing but the start was logged, or the invariant holds

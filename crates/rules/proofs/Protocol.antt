@@ -4,10 +4,8 @@ use mathlib.Core.Bool.{Bool, true, false}
 use mathlib.Core.List.{List, [], _∷_}
 use mathlib.Core.Option.{Option, some, none}
 use mathlib.Core.Path.{_≡_, refl}
-use native.Mathlib.Omega.{arith}
-use Rattle.rules.specs.Book.{Book}
 use Rattle.rules.specs.Interaction.{Interaction, Done, Observe, Execute, Fallback, Record}
-use Rattle.rules.specs.Protocol.{Call, Reply, Observed, Executed, FellBack, Recorded, Reading, Input, Calls, Replies, Reads, Item, Output, Started, StartRefused, Hands, Answers, Reminds, Refuses, Shows, NoRuntime, Start, Wait, Phase, Starting, Gone, Idle, Waiting, Reaction, Effect, Stays, Moves, proceed, startFrom, called, resumed, resume, startReplied, replied, effect, apply, react}
+use Rattle.rules.specs.Protocol.{Call, Reply, Observed, Executed, FellBack, Recorded, Reading, Input, Calls, Replies, Reads, Item, Output, Started, StartRefused, Hands, Answers, Reminds, Refuses, Shows, NoRuntime, Start, Phase, Starting, Gone, Idle, Waiting, Effect, Stays, Moves, proceed, startFrom, called, resumed, startReplied, replied, effect, apply, react}
 
 -- the output says that nothing happened: a reminder or a bare number
 abbrev pub Refusal : Output → Type 0

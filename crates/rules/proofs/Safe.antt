@@ -1,16 +1,15 @@
 -- An invariant of log and book, along a whole tree: and one induction over histories, for every invariant at once. Assumes nothing.
 use Prim.Native.Nat.{ℕ}
-use mathlib.Core.Bool.{Bool, true, false, cond, _&&_}
+use mathlib.Core.Bool.{Bool, true, false}
 use mathlib.Core.List.{List, [], _∷_, _++_, append-nil}
-use mathlib.Core.Option.{Option, some, none}
+use mathlib.Core.Option.{Option, some, none, Option·none-ne-some, Option·some-injective}
 use mathlib.Core.Path.{_≡_, refl, subst}
-use native.Mathlib.Omega.{arith}
 use Rattle.model.specs.declared.Observation.{Observation}
 use Rattle.rules.specs.Book.{Book}
 use Rattle.rules.specs.Interaction.{Answer, Interaction, Done, Observe, Execute, Fallback, Record}
 use Rattle.rules.specs.Rules.{usedAxes}
 use Rattle.rules.specs.Protocol.{Call, Reply, Observed, Executed, FellBack, Recorded, Input, Item, ItemObserve, ItemExecute, ItemFallback, ItemRecord, Start, Wait, OnObserve, OnExecute, OnFallback, OnRecord, Phase, Starting, Gone, Idle, Waiting, waitBook, bookIn, opening, startFrom, refusedStart, startUnless, start, startReplied, replied, called, effect, apply, begin, proceed, react}
-use Rattle.rules.specs.Log.{History, phaseAt, Event, Took, Replied, Handed, Log, handed, tookEffect, arrived, extended, logOf}
+use Rattle.rules.specs.Log.{History, phaseAt, Took, Replied, Handed, Log, handed, arrived, extended, logOf}
 use Rattle.rules.specs.Claim.{Takes, observed, executed, fellBack, recorded}
 use Rattle.rules.proofs.Steps.{Stands, atObserve, atExecute, atFallback, atRecord, itemAt, handed-item, effective, start-effective, Step, stays, tries, begins, answers, step}
 
@@ -102,20 +101,11 @@ module _ (s : Start) (I W : Log → Book → Type 0) (D : Log → Book → Answe
       go none e = rw append-nil at (start-on [] (usedAxes (s .capabilities)) true tt e)
   always (i ∷ past) = safe-step (logOf s past) (phaseAt s past) i (step (phaseAt s past) i) (always past)
 
--- what an invariant says of a phase: nothing but the start was logged, or it holds at the book
-none≢some : {A : Type 0} {b : Book} → none ≡ some b → A
-none≢some e = let z : _≡_ {A = ℕ} 0 1 = cc in absurd (clash z)
-  where
-    clash : _≡_ {A = ℕ} 0 1 → ⊥
-    clash z = omega arith
-
-same : {a b : Book} → some a ≡ some b → a ≡ b
-same e = cc
-
+-- the invariant at the book that a reading shows
 pub shows : (s : Start) (I : Log → Book → Type 0) (D : Log → Book → Answer → Type 0) (l : Log) (p : Phase) (b : Book) → SafePhase s I I D l p
     → bookIn p ≡ some b → I l b
 unfolding bookIn
-shows s I D l (Starting own axis rest good) b h e = none≢some e
-shows s I D l Gone b h e = none≢some e
-shows s I D l (Idle a) b h e = subst (λ x. I l x) (same e) h
-shows s I D l (Waiting w) b h e = subst (λ x. I l x) (same e) (at-wait I D l w h)
+shows s I D l (Starting own axis rest good) b h e = absurd (Option·none-ne-some _ e)
+shows s I D l Gone b h e = absurd (Option·none-ne-some _ e)
+shows s I D l (Idle a) b h e = subst (λ x. I l x) (Option·some-injective _ _ e) h
+shows s I D l (Waiting w) b h e = subst (λ x. I l x) (Option·some-injective _ _ e) (at-wait I D l w h)

@@ -1,6 +1,6 @@
 -- What an input does to a phase, by cases: the one place that goes through every pair of a phase and an input. Assumes nothing.
 use Prim.Native.Nat.{ℕ}
-use mathlib.Core.Bool.{Bool, true, false, cond}
+use mathlib.Core.Bool.{Bool, true, false}
 use mathlib.Core.List.{List, [], _∷_, _++_}
 use mathlib.Core.Option.{Option, some, none}
 use mathlib.Core.Path.{_≡_, refl}
@@ -10,8 +10,8 @@ use Rattle.model.specs.declared.Reason.{Reason}
 use Rattle.model.specs.declared.Receipt.{Receipt}
 use Rattle.rules.specs.Book.{Book}
 use Rattle.rules.specs.Interaction.{Interaction, Done, Observe, Execute, Fallback, Record}
-use Rattle.rules.specs.Protocol.{Call, Reply, Observed, Executed, FellBack, Recorded, Reading, Input, Calls, Replies, Reads, Item, ItemObserve, ItemExecute, ItemFallback, ItemRecord, Output, Start, Wait, OnObserve, OnExecute, OnFallback, OnRecord, Phase, Starting, Gone, Idle, Waiting, itemOf, waitBook, bookIn, resume, Reaction, proceed, startFrom, called, resumed, startReplied, replied, shown, effect, apply, react}
-use Rattle.rules.specs.Log.{Event, Took, Replied, Handed, Log, handed, tookEffect, arrived, extended, opened}
+use Rattle.rules.specs.Protocol.{Call, Reply, Observed, Executed, FellBack, Recorded, Reading, Input, Calls, Replies, Reads, Item, ItemObserve, ItemExecute, ItemFallback, ItemRecord, Start, Wait, OnObserve, OnExecute, OnFallback, OnRecord, Phase, Starting, Gone, Idle, Waiting, itemOf, bookIn, resume, proceed, startFrom, called, resumed, startReplied, replied, shown, effect, apply, react}
+use Rattle.rules.specs.Log.{Replied, Handed, Log, handed, tookEffect, arrived, extended, opened}
 use Rattle.rules.specs.Claim.{Takes, observed, executed, fellBack, recorded}
 
 -- the phase in which an interaction waits

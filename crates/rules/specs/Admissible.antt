@@ -1,9 +1,9 @@
 -- An order is admissible in a book: the 17 admission checks of 01 as plain facts, in 01's order. A law (proofs/Admission) joins them to
 -- the checks that the rules run.
-use Prim.Native.Nat.{ℕ, _+_, _-_, _^_, _≤_, _<_}
+use Prim.Native.Nat.{_+_, _-_, _^_, _≤_, _<_}
 use mathlib.Core.List.{List, [], _∷_}
 use mathlib.Core.Logic.{_⊎_, _≢_}
-use mathlib.Core.Option.{Option, some}
+use mathlib.Core.Option.{some}
 use mathlib.Core.Path.{_≡_}
 use lib.Bits.{bitAnd}
 use lib.IntN.{ℤ}

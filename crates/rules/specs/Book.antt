@@ -1,7 +1,7 @@
 -- The book (01, "Agreement"): what the rules step, for one life. It holds what 01 names, as values.
 use Prim.Native.Nat.{ℕ}
 use mathlib.Core.List.{List}
-use mathlib.Core.Option.{Option, some, none}
+use mathlib.Core.Option.{Option, none}
 use lib.ListN.{getD}
 use Rattle.model.specs.declared.Config.{Config}
 use Rattle.model.specs.declared.Capability.{Capability}

@@ -1,7 +1,7 @@
 -- The starred cases of 01: one table of histories with what 01 says of each, and one fact about the whole table, which antt computes.
 -- Default configuration, the reference profile, boot 42, start at 0, flags 0.
 use Prim.Native.Nat.{ℕ}
-use mathlib.Core.Bool.{true, false}
+use mathlib.Core.Bool.{true}
 use mathlib.Core.List.{List, [], _∷_, _++_, map}
 use mathlib.Core.Option.{Option, some, none}
 use mathlib.Core.Path.{_≡_, refl}
@@ -9,7 +9,6 @@ use lib.IntN.{ℤ, pos, negsuc}
 use Rattle.model.specs.declared.Bounds.{Bounds}
 use Rattle.model.specs.declared.Decision.{Decision}
 use Rattle.model.specs.declared.Decision.the-variants as Decision
-use Rattle.model.specs.declared.Receipt.{Receipt}
 use Rattle.model.specs.declared.RuntimeState.{RuntimeState}
 use Rattle.model.specs.declared.RuntimeState.the-variants as State
 use Rattle.model.specs.Bounds.{contains, isZero}
@@ -20,12 +19,12 @@ use Rattle.model.specs.Records.{defaultConfig}
 use Rattle.model.specs.Soundness.{verifiable, conditions, sound}
 use Rattle.model.specs.Words.{shareNoBit, inside, permits}
 use Rattle.rules.specs.Book.{Book, withLeases, withActive, withReplay, withReceipts, withNextReceipt, withNextLease, withEpoch, withFlags, withStateAt, withLastTick, withState, withInvalidCount, withEstopSeen}
-use Rattle.rules.specs.Receipts.{bumpTo, isRejected, rejected, dropFirstRejected, evict, keep, kept, numbered, isFallback, event, Submission, axisOr255, orderReceipt}
+use Rattle.rules.specs.Receipts.{bumpTo, isRejected, rejected, dropFirstRejected, evict, keep, kept, numbered, isFallback, event, axisOr255, orderReceipt}
 use Rattle.rules.specs.Interaction.{Answer, Returned, Polled, Succeeded, Leased, Refused, Submitted}
 use Rattle.rules.specs.Admission.{firstFailing, holdsOf, isEstopped, isFaulted, isArmed, isStale, ready, allowed, badDuration, validRequest, isFree, acquireChecks, isSome, withId, orderCapability, leaseFor, orderLease, hasBit, authorizes, wellFormed, isEntry, findEntry, replayed, validUntil, allContain, admission, verdict, validate}
 use Rattle.rules.specs.Rules.{select, usedAxes, bumpEpoch, recordReceipt, refreshed, refreshState, cleared, leaseId, leaseOwner, fallback, tripped, fallbacks, trip, fallbackOrTrip, exhausted, watchdog, staleness, due, fallbackIf, expiries, supervise, tick, preconditions, meetsEstop, newFlags, sense, updateState, emergencyStop, recovered, recoveries, recover, recoverLocal, newLease, granted, leased, grant, acquire, receiptNumber, original, storm, reject, withSequence, consumed, fail, activeUntil, complete, sameParameters, verified, verify, dispatch, admit, submit}
-use Rattle.rules.specs.Protocol.{Call, Tick, UpdateState, EmergencyStop, RecoverLocal, Acquire, Submit, Reply, Observed, Executed, FellBack, Recorded, Input, Calls, Replies, Output, Started, StartRefused, Hands, Answers, Reminds, Refuses, Shows, NoRuntime, Start, opening, badConfig, refusedRecord, refusedStart, Phase, itemOf, waitBook, bookIn, resume, begin, Reaction, proceed, startFrom, startUnless, start, called, resumed, startReplied, replied, effect, apply, react}
-use Rattle.rules.specs.Lives.{Life, outputsFrom, phaseFrom}
+use Rattle.rules.specs.Protocol.{Tick, UpdateState, EmergencyStop, RecoverLocal, Acquire, Submit, Observed, Executed, FellBack, Recorded, Input, Calls, Replies, Output, Started, StartRefused, Hands, Answers, Reminds, Refuses, Shows, NoRuntime, Start, opening, badConfig, refusedRecord, refusedStart, itemOf, waitBook, bookIn, resume, begin, proceed, startFrom, startUnless, start, called, resumed, startReplied, replied, effect, apply, react}
+use Rattle.rules.specs.Lives.{outputsFrom, phaseFrom}
 
 -- what 01 says ---------------------------------------------------------------------------------------------------------
 

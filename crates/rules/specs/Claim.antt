@@ -10,7 +10,6 @@ use mathlib.Core.Path.{_≡_}
 use lib.Bits.{bitAnd}
 use lib.IntN.{ℤ}
 use lib.ListN.{length, take}
-use Rattle.model.specs.declared.Action.{Action}
 use Rattle.model.specs.declared.Capability.{Capability}
 use Rattle.model.specs.declared.Config.{Config}
 use Rattle.model.specs.declared.Lease.{Lease}
@@ -22,11 +21,11 @@ use Rattle.model.specs.declared.Replay.{Replay}
 use Rattle.model.specs.Soundness.{sound}
 use Rattle.rules.specs.Book.{Book, leaseAt}
 use Rattle.rules.specs.Receipts.{top, Submission}
-use Rattle.rules.specs.Interaction.{Answer, Returned, Interaction, Done, Observe, Execute, Fallback, Record}
+use Rattle.rules.specs.Interaction.{Returned, Interaction, Done, Observe, Execute, Fallback, Record}
 use Rattle.rules.specs.Admission.{withId}
 use Rattle.rules.specs.Admissible.{Mem, Admissible}
 use Rattle.rules.specs.Rules.{usedAxes, tick, replayCapacity}
-use Rattle.rules.specs.Protocol.{Submit, Reply, Observed, Executed, FellBack, Recorded, Item, ItemObserve, ItemExecute, ItemFallback, ItemRecord, Output, Hands, Start, Phase, Idle, bookIn, opening}
+use Rattle.rules.specs.Protocol.{Submit, Reply, Observed, Executed, FellBack, Recorded, Item, ItemObserve, ItemExecute, ItemFallback, ItemRecord, Hands, Start, Idle, bookIn, opening}
 use Rattle.rules.specs.Lives.{Life}
 use Rattle.rules.specs.Log.{History, phaseAt, outputAt, Log, Handed, logOf, bookBefore, callOf, Exchange, current, startItems, startReplies, executedIn, nextNumber, receiptsOf, observing, Admitted, admissions, entryOf, highest, isGrant, Tenancy, live, leastEpoch, mostEpoch}
 

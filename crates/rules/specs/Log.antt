@@ -9,14 +9,12 @@ use Rattle.model.specs.declared.Action.{Action}
 use Rattle.model.specs.declared.Bounds.{Bounds}
 use Rattle.model.specs.declared.Decision.{Decision}
 use Rattle.model.specs.declared.Decision.the-variants as Decision
-use Rattle.model.specs.declared.LeaseRequest.{LeaseRequest}
 use Rattle.model.specs.declared.Receipt.{Receipt}
 use Rattle.model.specs.declared.Replay.{Replay}
 use Rattle.model.specs.declared.Reason.the-variants as Reason
 use Rattle.model.specs.Reasons.{number}
 use Rattle.rules.specs.Book.{Book}
 use Rattle.rules.specs.Receipts.{bump, receiptCapacity, keep, Submission}
-use Rattle.rules.specs.Admission.{Renewal}
 use Rattle.rules.specs.Protocol.{Call, Tick, UpdateState, EmergencyStop, PollEstop, RecoverLocal, Acquire, Renew, Cancel, Submit, Reply, Input, Calls, Replies, Reads, Item, ItemObserve, ItemExecute, ItemFallback, ItemRecord, Output, Started, StartRefused, Hands, Answers, Reminds, Refuses, Shows, NoRuntime, Start, Phase, bookIn, start, react}
 use Rattle.rules.specs.Lives.{Life}
 

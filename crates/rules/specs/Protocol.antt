@@ -22,7 +22,7 @@ use Rattle.model.specs.Soundness.{sound, idTaken}
 use Rattle.rules.specs.Book.{Book, leaseAt}
 use Rattle.rules.specs.Receipts.{Submission}
 use Rattle.rules.specs.Interaction.{Answer, Returned, Interaction, Done, Observe, Execute, Fallback, Record}
-use Rattle.rules.specs.Admission.{Renewal, isSome}
+use Rattle.rules.specs.Admission.{Renewal}
 use Rattle.rules.specs.Rules.{usedAxes, meetsEstop, tick, updateState, emergencyStop, pollEstop, recoverLocal, acquire, renew, cancel, submit}
 
 -- what goes in and what comes out ------------------------------------------------------------------------------------

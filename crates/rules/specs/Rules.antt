@@ -2,12 +2,12 @@
 -- reply. A rule that others build on takes what follows it as `next`.
 use Prim.Native.Nat.{ℕ, _+_, _-_, min, max}
 use mathlib.Core.Bool.{Bool, true, false, cond, not, _&&_, _||_}
-use mathlib.Core.List.{List, [], _∷_, _++_, map}
+use mathlib.Core.List.{List, [], _∷_}
 use mathlib.Core.Option.{Option, some, none}
 use lib.Bits.{bitAnd, bitOr}
 use lib.Dec.{ltb, leb, eqb}
 use lib.IntN.{ℤ}
-use lib.ListN.{length, take, set, replicate}
+use lib.ListN.{take, set}
 use lib.Signed.{leZ}
 use Rattle.model.specs.declared.Active.{Active}
 use Rattle.model.specs.declared.Capability.{Capability}
@@ -32,7 +32,7 @@ use Rattle.model.specs.Soundness.{axisUsed}
 use Rattle.model.specs.Words.{shareNoBit, permits}
 use Rattle.rules.specs.Book.{Book, leaseAt, activeAt, withLeases, withActive, withReplay, withNextLease, withEpoch, withFlags, withStateAt, withLastTick, withState, withInvalidCount, withEstopSeen}
 use Rattle.rules.specs.Receipts.{top, bumpTo, bump, kept, numbered, event, Submission, Progress, notSent, orderReceipt}
-use Rattle.rules.specs.Interaction.{Answer, Returned, Polled, Succeeded, Leased, Refused, Submitted, Interaction, Done, Observe, Execute, Fallback, Record}
+use Rattle.rules.specs.Interaction.{Returned, Polled, Succeeded, Leased, Refused, Submitted, Interaction, Done, Observe, Execute, Fallback, Record}
 use Rattle.rules.specs.Admission.{firstFailing, isArmed, isEstopped, isStale, axes, isSome, holdsOf, acquireChecks, Renewal, renewChecks, heldAxis, heldLease, orderCapability, replayed, validUntil, Verdict, Admits, Rejects, validate}
 
 -- 01: "An axis is used if a capability names it."
