@@ -29,7 +29,7 @@ use Rattle.rules.specs.Receipts.{bump, kept, numbered, event, Submission
 use Rattle.rules.specs.Interaction.{Answer, Returned, Polled, Succeeded, Refused, Submitted, Interaction, Done, Observe}
 use Rattle.rules.specs.Admission.{firstFailing, holdsOf, isArmed, isEstopped, isFaulted, isStale, ready, isFree, validRequest, axes, acquireChecks, Renewal, heldAxis, leaseOn, heldLease, withId, orderCapability, orderLease, verdict, validate, admission}
 use Rattle.rules.specs.Admissible.{Mem}
-use Rattle.rules.specs.Rules.{usedAxes, bumpEpoch, recordReceipt, refreshState, cleared, fallback, trip, fallbackOrTrip, exhausted, tick, preconditions, meetsEstop, newFlags, sense, updateState, emergencyStop, pollEstop, recovered, recoveries, recover, recoverLocal, newLease, granted, leased, grant, acquire, extended, extend, renewed, renew, canceled, cancel, storm, reject, consumed, fail, complete, verified, verify, dispatch, admit, submit}
+use Rattle.rules.specs.Rules.{usedAxes, bumpEpoch, recordReceipt, refreshState, cleared, fallback, trip, fallbackOrTrip, exhausted, tick, preconditions, meetsEstop, newFlags, sense, updateState, emergencyStop, pollEstop, recovered, recoveries, recover, recoverLocal, newLease, granted, leased, grant, acquire, extended, extend, renewed, renew, canceled, cancel, storm, reject, consumed, streamEnd, fail, complete, verified, verify, dispatch, admit, submit}
 use Rattle.rules.specs.Protocol.{Call, Tick, UpdateState, EmergencyStop, PollEstop, RecoverLocal, Acquire, Renew, Cancel, Submit, Reply, Observed, Executed, Recorded, ItemObserve, ItemExecute, ItemFallback, ItemRecord, Start, begin}
 use Rattle.rules.specs.Log.{History, phaseAt, Took, Replied, Handed, Log, logOf, callOf, submissionOf, reaching, executed, nextNumber, observing, Admitted, admittedAs, admitting, admissions, entryOf, highest, isControl, isGrant, live, holding, mostEpoch, epochTaken, epochAfter, afterFallback}
 use Rattle.rules.specs.Claim.{Leased, Observing, tenancyIn}
@@ -311,12 +311,12 @@ module _ (s : Start) where
   inv-reject o reason l b h =
       inv-record (InHand (Submit o)) (in-hand (Submit o)) _ l _ _ refl (inv-counted s l b (h .0) _, h .1) (λ r l′ b′ h′. inv-storm o r l′ b′ h′)
 
-  inv-complete : (o : Submission) (c : Capability) (x : Lease) (p : Progress) (l : Log) (b : Book) → InHand (Submit o) l b → Safe (I s) End l (complete c x p o b)
+  inv-complete : (o : Submission) (c : Capability) (x : ℕ) (p : Progress) (l : Log) (b : Book) → InHand (Submit o) l b → Safe (I s) End l (complete c x p o b)
   unfolding complete orderReceipt isControl
   inv-complete o c x p l b h =
       inv-record (InHand (Submit o)) (in-hand (Submit o)) _ l _ _ refl (inv-active s l _ (inv-counted s l b (h .0) 0) _, h .1) (λ r l′ b′ h′. h′ .0)
 
-  inv-verify : (o : Submission) (c : Capability) (x : Lease) (before : ℕ) (l : Log) (b : Book) (seen : Option Observation) → InHand (Submit o) l b
+  inv-verify : (o : Submission) (c : Capability) (x : ℕ) (before : ℕ) (l : Log) (b : Book) (seen : Option Observation) → InHand (Submit o) l b
       → Safe (I s) End l (verify c x before o b seen)
   unfolding verify
   inv-verify o c x before l b none h = inv-fail o c Reason.Driver _ l b h
@@ -467,7 +467,7 @@ module _ (s : Start) where
             };
       }
 
-  inv-executing : (o : Submission) (c : Capability) (x : Lease) (before : ℕ) (p : Progress) (l : Log) (b : Book) → InHand (Submit o) l b → observing l ≡ true
+  inv-executing : (o : Submission) (c : Capability) (x : ℕ) (before : ℕ) (p : Progress) (l : Log) (b : Book) → InHand (Submit o) l b → observing l ≡ true
       → withId (o .action .capability) (s .capabilities) ≡ some c → (ok : Bool)
       → Safe (I s) End (Replied (Executed ok) ∷ l) (cond ok (Observe (c .resource) b (verify c x before o b)) (fail c Reason.Driver p o b))
   unfolding callOf observing
@@ -481,7 +481,7 @@ module _ (s : Start) where
 
   inv-dispatch : (o : Submission) (c : Capability) (x : Lease) (l : Log) (b : Book) → Admitting o c x b → InCall (Submit o) l b
       → Guarded (Settled (o .now) (reverse axes)) b → (seen : Option Observation) → I s (Handed (ItemObserve (c .resource)) ∷ l) (consumed c x o b)
-      → Safe (I s) End (Replied (Observed seen) ∷ (Handed (ItemObserve (c .resource)) ∷ l)) (dispatch c x o (consumed c x o b) seen)
+      → Safe (I s) End (Replied (Observed seen) ∷ (Handed (ItemObserve (c .resource)) ∷ l)) (dispatch c (streamEnd x o) o (consumed c x o b) seen)
   unfolding dispatch callOf observing executed reaching admissions admitting submissionOf live holding
   inv-dispatch o c x l b a h settled none h₁ =
       inv-fail o c Reason.Driver notSent _ (consumed c x o b) (inv-replied s _ (consumed c x o b) h₁ (Observed none), h .1 .0)
@@ -495,7 +495,7 @@ module _ (s : Start) where
       inv-executed s o (c .id) (o .action .parameters) l₂ b₁ (h .1 .0) (a .passed .boot ∙ h .0 .0 .own) (fresh s o c x l b (a .passed) (h .0)) admits
       (proper o c x l b a h settled l₃ refl refl) h₂ in (
         h₃,
-        inv-executing o c x (seen .state) _ l₃ b₁ (h₃, h .1 .0) refl
+        inv-executing o c (streamEnd x o) (seen .state) _ l₃ b₁ (h₃, h .1 .0) refl
             (subst (λ cs. withId (o .action .capability) cs ≡ some c) (h .0 .0 .capabilities) (a .known)),
       )
 

@@ -16,3 +16,9 @@ pub mod Invariant
 pub mod Calls
 pub mod Once
 pub mod Theorem
+pub mod Outcomes
+pub mod StateBook
+pub mod StateRules
+pub mod StateCalls
+pub mod TickRevokes
+pub mod StateFacts

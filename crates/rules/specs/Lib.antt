@@ -8,4 +8,5 @@ pub mod Protocol
 pub mod Lives
 pub mod Log
 pub mod Claim
+pub mod StateFacts
 pub mod Cases

@@ -344,15 +344,18 @@ fail c reason p s b =
 
 -- 01: "A Stream is active until the smaller of validity end and lease expiry, both as they were at admission, a Discrete order until
 -- its lease ends; Control clears."
-unfoldable pub activeUntil : Capability → ExecutionClass → Lease → Submission → Option Active
-activeUntil c Stream l s = some (record { capability = c; «expires_at» = min (validUntil s) (l .«expires_at») })
-activeUntil c Discrete l s = some (record { capability = c; «expires_at» = top })
-activeUntil c Control l s = none
+unfoldable pub streamEnd : Lease → Submission → ℕ
+streamEnd l s = min (validUntil s) (l .«expires_at»)
 
-unfoldable pub complete : Capability → Lease → Progress → Submission → Book → Interaction
-complete c l p s b =
+unfoldable pub activeUntil : Capability → ExecutionClass → ℕ → Option Active
+activeUntil c Stream end = some (record { capability = c; «expires_at» = end })
+activeUntil c Discrete end = some (record { capability = c; «expires_at» = top })
+activeUntil c Control end = none
+
+unfoldable pub complete : Capability → ℕ → Progress → Submission → Book → Interaction
+complete c end p s b =
     recordReceipt (orderReceipt s (some c) Decision.Executed Reason.Ok 0 p b)
-    (withActive (set (b .active) (c .resource) (activeUntil c (c .class) l s)) (withInvalidCount 0 b))
+    (withActive (set (b .active) (c .resource) (activeUntil c (c .class) end)) (withInvalidCount 0 b))
     (λ r b′. Done b′ (Submitted r))
 
 unfoldable pub sameParameters : List ℤ → List ℤ → Bool
@@ -367,27 +370,27 @@ verified Parameters parameters seen = sameParameters (seen .parameters) paramete
 verified (StateIs mask value) parameters seen = eqb (bitAnd (seen .state) mask) value
 
 -- the observation after the execution, which the driver may fail to bring
-unfoldable pub verify : Capability → Lease → ℕ → Submission → Book → Option Observation → Interaction
-verify c l before s b none =
+unfoldable pub verify : Capability → ℕ → ℕ → Submission → Book → Option Observation → Interaction
+verify c end before s b none =
     fail c Reason.Driver
     (record { dispatched = true; preState = before; executedAt = s .now; observedValid = false; observed = notSent .observed; postState = 0 }) s b
-verify c l before s b (some seen) =
+verify c end before s b (some seen) =
     let p : Progress = record { dispatched = true; preState = before; executedAt = s .now; observedValid = true; observed = seen .parameters; postState = seen .state } in
-    cond (verified (c .verification) (s .action .parameters) seen) (complete c l p s b) (fail c Reason.Verification p s b)
+    cond (verified (c .verification) (s .action .parameters) seen) (complete c end p s b) (fail c Reason.Verification p s b)
 
 -- the observation before the execution, which the driver may fail to bring
-unfoldable pub dispatch : Capability → Lease → Submission → Book → Option Observation → Interaction
-dispatch c l s b none = fail c Reason.Driver notSent s b
-dispatch c l s b (some seen) =
+unfoldable pub dispatch : Capability → ℕ → Submission → Book → Option Observation → Interaction
+dispatch c end s b none = fail c Reason.Driver notSent s b
+dispatch c end s b (some seen) =
     Execute (c .id) (s .action .parameters) b
     (λ ok.
-    cond ok (Observe (c .resource) b (verify c l (seen .state) s b))
+    cond ok (Observe (c .resource) b (verify c end (seen .state) s b))
     (fail c Reason.Driver
     (record { dispatched = true; preState = seen .state; executedAt = 0; observedValid = false; observed = notSent .observed; postState = 0 }) s b))
 
 unfoldable pub admit : Verdict → Submission → Book → Interaction
 admit (Rejects reason) s b = reject reason s b
-admit (Admits c l) s b = Observe (c .resource) (consumed c l s b) (dispatch c l s (consumed c l s b))
+admit (Admits c l) s b = Observe (c .resource) (consumed c l s b) (dispatch c (streamEnd l s) s (consumed c l s b))
 
 unfoldable pub submit : Submission → Book → Interaction
 submit s b = tick (s .now) b (λ b′. admit (validate s b′) s b′)
