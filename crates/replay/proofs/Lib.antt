@@ -1,0 +1,4 @@
+pub mod Circle
+pub mod Entries
+pub mod Kept
+pub mod Search
