@@ -22,3 +22,8 @@ pub mod StateRules
 pub mod StateCalls
 pub mod TickRevokes
 pub mod StateFacts
+pub mod Walks
+pub mod Stopped
+pub mod Reached
+pub mod Dispatched
+pub mod StopFacts

@@ -10,3 +10,4 @@ pub mod Log
 pub mod Claim
 pub mod StateFacts
 pub mod Cases
+pub mod StopFacts
