@@ -1,7 +1,7 @@
 //! Child module of `runtime.rs` in the build with `counters`: reaches its private fields.
 
 use super::{Runtime, REPLAY_CAPACITY};
-use crate::{ActiveOrder, Hidden, ReplayEntry};
+use crate::{ActiveOrder, Driver, Hidden, Receipt, ReplayEntry};
 
 impl Runtime {
     pub fn set_epoch(&mut self, value: u64) {
@@ -14,6 +14,11 @@ impl Runtime {
 
     pub fn set_next_lease(&mut self, value: u64) {
         self.next_lease = value;
+    }
+
+    /// One push into the ring of receipts, as every rule does it.
+    pub fn push_receipt(&mut self, receipt: Receipt, driver: &mut impl Driver) {
+        self.record(receipt, driver);
     }
 
     pub fn hidden(&self) -> Hidden {

@@ -1,0 +1,5 @@
+pub mod Blank
+pub mod Orders
+pub mod Circles
+pub mod Indexes
+pub mod Rings

@@ -1,0 +1,15 @@
+use Rattle.receipts.specs.Blank.{blank}
+use Rattle.receipts_speed.specs.Pushes.{numberedReceipt}
+use borrow.Author.Needs.{needs}
+use Rattle.receipts_speed.proofs.numbered.Statement.{statement}
+use Rattle.receipts_speed.proofs.numbered.Tie as tie
+
+decision-of-requires : tie.Need-decision-of-requires
+decision-of-requires c κs = search needs
+
+returns : tie.Need-returns
+unfolding numberedReceipt blank
+returns c = rw (c .decision-of .ensures)
+
+pub numbered-spec : {M : Type 1} → statement M
+numbered-spec = tie.close (tie.spec decision-of-requires returns)
