@@ -1,0 +1,254 @@
+//! Random lives, each with what is to be proved of it.
+
+use crate::choose::choose;
+use crate::text;
+use crate::turns::{moments, Event, Moment, Output, Place};
+use crate::weave::{weave, Script};
+use oracle::driver::Item;
+use oracle::generate::Generator;
+use oracle::life::{Call, Counter, Life, Reply};
+use oracle::prng::Prng;
+use oracle::run::{run_life, LifeTrace, Options};
+use oracle::runtime_core::{Decision, Observation, Reason, RECEIPT_CAPACITY, REPLAY_CAPACITY};
+
+/// One life in so many is long, and one brings a counter to the top.
+pub const EVERY: u64 = 20;
+
+/// The generator's calm lives have three to five times as many calls.
+const LONG_CALLS: u64 = 30;
+
+/// Lives that bring a counter to the top have at least as many calls.
+const TOP_CALLS: u64 = 20;
+
+/// In how many waits the whole book of a life is compared, besides its end.
+const BOOKS: usize = 3;
+const BOOKS_OF_A_LONG_LIFE: usize = 6;
+
+/// What is to be proved of a life.
+#[derive(Clone, Debug, PartialEq, Eq)]
+pub struct Fact {
+    pub number: u64,
+    pub life: Life,
+    pub script: Script,
+    /// The expected outputs as terms, that of the start first.
+    pub outputs: Vec<String>,
+    /// Whole books, the last one at the end of the history. None in the build without
+    /// `counters`, which can't read what no reading shows.
+    pub books: Vec<Seen>,
+    pub reached: Reached,
+}
+
+/// The book at a moment of a life, as the Rust has it.
+#[derive(Clone, Debug, PartialEq, Eq)]
+pub struct Seen {
+    /// The place of the output that came before.
+    pub place: usize,
+    pub awaited: Option<Item>,
+    /// The fields of the book; none in a start and after a refused one.
+    pub book: Option<[(&'static str, String); 16]>,
+}
+
+/// What a history comes to on the Rust.
+#[derive(Clone, Copy, Debug, Default, PartialEq, Eq)]
+pub struct Reached {
+    pub admitted: usize,
+    /// All that were written, those dropped since included.
+    pub receipts: usize,
+    /// It ends while a reply is awaited.
+    pub cut: bool,
+}
+
+impl Reached {
+    fn by(moments: &[Moment<'_>]) -> Self {
+        let mut reached = Self::default();
+        for moment in moments {
+            if let Event::Input(_, Output::Hands(Item::Record { receipt })) = moment.event {
+                let order = matches!(receipt.decision, Decision::Executed | Decision::Failed);
+                reached.admitted += usize::from(order);
+                reached.receipts += 1;
+            }
+            reached.cut = moment.place.awaited.is_some();
+        }
+        reached
+    }
+
+    pub fn over_replay(&self) -> bool {
+        self.admitted > REPLAY_CAPACITY
+    }
+
+    pub fn over_ring(&self) -> bool {
+        self.receipts > RECEIPT_CAPACITY
+    }
+}
+
+impl Fact {
+    pub fn name(&self) -> String {
+        format!("life{}", self.number)
+    }
+}
+
+/// So many lives, with what is to be proved of them.
+pub fn facts(seed: u64, lives: u64, calls: u64) -> Vec<Fact> {
+    let choice = choose(seed, lives, calls);
+    let new = choice.new.iter().map(|n| fact(seed, *n, calls, false));
+    let others = choice.others.iter();
+    let others = others.map(|n| fact(seed, *n, calls, !is_long(*n)));
+    let mut facts: Vec<Fact> = new.chain(others).collect();
+    facts.sort_by_key(|fact| fact.number);
+    facts
+}
+
+/// The life of this number.
+pub fn life(seed: u64, number: u64, calls: u64) -> Life {
+    let mut life = match number % EVERY {
+        _ if is_long(number) => long_life(seed, number),
+        9 if oracle::HAS_COUNTERS => top_life(seed, number, calls),
+        _ => usual_life(seed, number, calls),
+    };
+    see_something_first(&mut life, &mut Prng::new(!seed, number));
+    life
+}
+
+/// What is to be proved of the life of this number. Its history may be cut anywhere.
+fn fact(seed: u64, number: u64, calls: u64, may_be_cut: bool) -> Fact {
+    let life = life(seed, number, calls);
+    let trace = run_life(&life, Options::ALL);
+    let mut moments = moments(&trace);
+    let mut rng = Prng::new(!seed, !number);
+    if may_be_cut && rng.percent(50) {
+        moments.truncate(1 + rng.index(moments.len()));
+    }
+    let own_calls = life.steps.iter().map(|step| step.call);
+    let own_calls: Vec<Call> = own_calls.filter(|call| call.now().is_some()).collect();
+    let script = weave(&moments, &own_calls, &mut rng);
+    let long = is_long(number);
+    let most = if long { BOOKS_OF_A_LONG_LIFE } else { BOOKS };
+    Fact {
+        number,
+        outputs: script.outputs().map(|o| text::output(&o)).collect(),
+        books: books(&moments, &script, most, &mut rng),
+        reached: Reached::by(&moments),
+        life,
+        script,
+    }
+}
+
+/// Whether the life of this number is one of the long ones.
+pub const fn is_long(number: u64) -> bool {
+    number % EVERY == EVERY - 1
+}
+
+/// The books in some waits and at the end.
+fn books(moments: &[Moment<'_>], script: &Script, most: usize, rng: &mut Prng) -> Vec<Seen> {
+    if !oracle::HAS_COUNTERS {
+        return Vec::new();
+    }
+    let turns = script.turns().enumerate().filter(|(_, turn)| !turn.woven);
+    let places = std::iter::once(0).chain(turns.map(|(n, _)| n + 1));
+    let outputs = moments
+        .iter()
+        .filter(|m| !matches!(m.event, Event::Set(..)));
+    let is_wait = |p: &Place<'_>| p.awaited.is_some() && p.readings.is_some();
+    let waits: Vec<(usize, Place<'_>)> = places
+        .zip(outputs.map(|moment| moment.place))
+        .filter(|(_, place)| is_wait(place))
+        .collect();
+    let mut picked: Vec<_> = (0..most).filter_map(|_| rng.pick(&waits)).collect();
+    picked.sort_by_key(|(place, _)| *place);
+    picked.dedup_by_key(|(place, _)| *place);
+    let end = moments
+        .last()
+        .map(|m| (script.outputs().count() - 1, m.place));
+    let all = picked.into_iter().chain(end);
+    all.map(|(place, at)| seen(place, &at)).collect()
+}
+
+fn seen(place: usize, at: &Place<'_>) -> Seen {
+    let hidden = at.readings.and_then(|r| Some((r, r.hidden.as_ref()?)));
+    Seen {
+        place,
+        awaited: at.awaited,
+        book: hidden.map(|(readings, hidden)| text::book(readings, hidden)),
+    }
+}
+
+fn usual_life(seed: u64, number: u64, calls: u64) -> Life {
+    let mut generator = Generator::new(seed);
+    generator.calls = calls;
+    let mut life = generator.life(number);
+    let calls = usize::try_from(calls).unwrap_or(usize::MAX);
+    life.steps.truncate(calls);
+    life
+}
+
+/// The generator lets a first observation that a failure follows show state 0; so that it
+/// tells something, it shows any state here.
+fn see_something_first(life: &mut Life, rng: &mut Prng) {
+    for step in &mut life.steps {
+        let order = matches!(step.call, Call::Submit(_));
+        let fails = step.replies.contains(&Reply::Fail);
+        if let (true, true, Some(first)) = (order, fails, step.replies.first_mut()) {
+            if *first == Reply::Ok {
+                *first = Reply::See(Observation {
+                    parameters: [rng.draw() as i32, 0],
+                    state: rng.draw() as u32,
+                });
+            }
+        }
+    }
+}
+
+/// The first life, of those that have this number among others, that is as wanted.
+fn find(number: u64, life: impl Fn(u64) -> Life, wanted: impl Fn(&LifeTrace) -> bool) -> Life {
+    let mut candidates = (1u64..).map(|n| life((n << 32) + number));
+    let found = candidates.find(|life| wanted(&run_life(life, Options::default())));
+    found.expect("there are more lives than anyone can count")
+}
+
+/// A life that goes past the capacities of both rings.
+fn long_life(seed: u64, number: u64) -> Life {
+    let generator = Generator {
+        seed,
+        calls: LONG_CALLS,
+        counters: false,
+    };
+    let long = |trace: &LifeTrace| {
+        let reached = Reached::by(&moments(trace));
+        reached.over_replay() && reached.over_ring()
+    };
+    find(number, |n| generator.life(n), long)
+}
+
+/// A life in which one counter alone is set and a tick finds it at the top, each of the three
+/// in turn; in every fourth such life the clock goes back after that.
+fn top_life(seed: u64, number: u64, calls: u64) -> Life {
+    let turn = usize::try_from(number / EVERY % 4).unwrap_or(0);
+    let wanted = |trace: &LifeTrace| {
+        let sets = trace.calls.iter().filter_map(|call| match call.step.call {
+            Call::Set { counter, .. } => Some(counter),
+            _ => None,
+        });
+        let sets: Vec<Counter> = sets.collect();
+        let mut full = fallbacks(trace, Reason::Faulted);
+        let Some(full) = full.next() else {
+            return false;
+        };
+        match Counter::ALL.get(turn) {
+            Some(counter) => sets == [*counter],
+            None => sets.len() == 1 && fallbacks(trace, Reason::Clock).any(|n| n > full),
+        }
+    };
+    let calls = calls.max(TOP_CALLS);
+    find(number, |n| usual_life(seed, n, calls), wanted)
+}
+
+/// The places of the calls that fall back with this reason.
+fn fallbacks(trace: &LifeTrace, wanted: Reason) -> impl Iterator<Item = usize> + '_ {
+    let is_wanted = move |item: &Item| match item {
+        Item::Fallback { reason, .. } => *reason == wanted,
+        _ => false,
+    };
+    let calls = trace.calls.iter().enumerate();
+    let calls = calls.filter(move |(_, call)| call.items.iter().any(|i| is_wanted(&i.item)));
+    calls.map(|(n, _)| n)
+}
