@@ -68,14 +68,9 @@ pub extern "C" fn receipts_speed_oldest(pushes: u64, kinds: u64) -> u64
         let next = numbered(id, kinds);
         let decision = next.decision;
         let is_rejection = is_rejected(decision);
-        let rejections_head = index.rejected.head;
-        let others_head = index.others.head;
-        let pushed = push(
-            index,
-            is_rejection,
-            rejections[rejections_head],
-            others[others_head],
-        );
+        let front = index.rejected.head;
+        let other_front = index.others.head;
+        let pushed = push(index, is_rejection, rejections[front], others[other_front]);
         let slot = pushed.slot;
         let place = pushed.place;
         slots[slot] = next;
@@ -94,6 +89,5 @@ pub extern "C" fn receipts_speed_oldest(pushes: u64, kinds: u64) -> u64
         slots: slots,
     };
     let kept = receipt(ring, 0);
-    let oldest = kept.receipt;
-    oldest.receipt_id
+    kept.receipt.receipt_id
 }

@@ -100,8 +100,8 @@ receipt-requires c κs = search needs
 
 returns : tie.Need-returns Inv-loop μ-loop
 returns c =
-    let loop = c .before .before .before .loop in
-    oldest-is (loop .inv .1) (omega arith) (c .before .receipt .ensures)
+    let loop = c .before .before .loop in
+    oldest-is (loop .inv .1) (omega arith) (c .receipt .ensures)
 
 pub receipts-speed-oldest-spec : {M : Type 1} → statement M
 receipts-speed-oldest-spec =
