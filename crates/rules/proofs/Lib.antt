@@ -24,6 +24,5 @@ pub mod TickRevokes
 pub mod StateFacts
 pub mod Walks
 pub mod Stopped
-pub mod Reached
 pub mod Dispatched
 pub mod StopFacts

@@ -6,7 +6,7 @@ use mathlib.Core.Logic.{_⊎_, inl, inr, ⊎-elim, _≢_}
 use mathlib.Core.Option.{Option, some, none}
 use mathlib.Core.Path.{_≡_, refl, sym, ap, _∙_, subst}
 use native.Mathlib.Omega.{arith}
-use lib.Dec.{ltb, eqb}
+use lib.Dec.{eqb}
 use lib.IntN.{ℤ}
 use Rattle.model.specs.declared.Reason.{Reason}
 use Rattle.model.specs.declared.RuntimeState.{RuntimeState}
@@ -15,8 +15,8 @@ use Rattle.model.specs.Reasons.{number}
 use Rattle.rules.specs.Book.{Book, withLeases, withActive, withReceipts, withNextReceipt, withEpoch, withFlags, withStateAt, withLastTick, withState, withInvalidCount, withEstopSeen}
 use Rattle.rules.specs.Receipts.{kept}
 use Rattle.rules.specs.Interaction.{Answer, Returned, Succeeded, Refused, Interaction, Done, Observe, Execute, Fallback, Record}
-use Rattle.rules.specs.Admission.{Check, firstFailing, holdsOf, isEstopped, isFaulted, isStale, ready, axes, acquireChecks, renewChecks, axisHeld, heldAxis, orderCapability, orderLease, admission, verdict, validate}
-use Rattle.rules.specs.Rules.{usedAxes, bumpEpoch, refreshed, refreshState, cleared, tripped, trip, exhausted, meetsEstop, updateState, recovered, recoveries, recover, recoverLocal, grant, acquire, renewed, renew, canceled, cancel, admit, submit}
+use Rattle.rules.specs.Admission.{Check, firstFailing, holdsOf, isEstopped, isFaulted, ready, axes, acquireChecks, renewChecks, axisHeld, heldAxis, orderCapability, orderLease, admission, verdict, validate}
+use Rattle.rules.specs.Rules.{bumpEpoch, refreshed, refreshState, cleared, tripped, updateState, recovered, recoverLocal, grant, acquire, renewed, renew, canceled, cancel, admit, submit}
 use Rattle.rules.specs.Protocol.{Call, Tick, UpdateState, EmergencyStop, PollEstop, RecoverLocal, Acquire, Renew, Cancel, Submit, Reply, Input, Calls, Replies, Reads, Item, ItemObserve, ItemExecute, ItemFallback, ItemRecord, Hands, Answers, OnObserve, OnExecute, OnFallback, OnRecord, Phase, Starting, Gone, Idle, Waiting, waitBook, bookIn, Reaction, called, shown, effect, apply, begin, proceed, react}
 use Rattle.rules.specs.Lives.{outputsFrom, phaseFrom}
 use Rattle.rules.specs.Log.{Took, Replied, Handed, Log, handed, tookEffect, arrived, extended}
@@ -25,16 +25,17 @@ use Rattle.rules.specs.StateFacts.{NoLease}
 use Rattle.rules.specs.StopFacts.{Unready, InEstop, Halted, Throughout, Rests, Lifted, Unlifted, Stopped, Blocked, NoneUntilSuccess, Unrecovered, StillBlocked, BlocksDispatch}
 use Rattle.rules.proofs.Steps.{Stands, atObserve, atExecute, atFallback, atRecord, Stays, Step, stays, tries, begins, answers, step}
 use Rattle.rules.proofs.Safe.{Safe}
-use Rattle.rules.proofs.Walks.{none-falls, none-records, Kept, trip-on, recover-on, Other, Turns, walk-tick, walk-sense, walk-stop, walk-poll, walk-reject}
+use Rattle.rules.proofs.StateBook.{not-both, only-cleared, only-none}
+use Rattle.rules.proofs.Walks.{Other, Kept, walk-tick, walk-sense, walk-stop, walk-poll, walk-recover, walk-reject}
 
--- ---- the states that only a recovery leaves
+-- ---- states that only a recovery leaves
 
 pub record Lasting (N : RuntimeState → Type 0) : Type 0 where
   pub unready : (x : RuntimeState) → N x → Unready x
   pub trips : (reason : Reason) (x : RuntimeState) → N x → N (tripped reason x)
   pub refreshes : (leased : Bool) (x : RuntimeState) → N x → N (refreshed leased x)
 
-pub trips-unready : (reason : Reason) (x : RuntimeState) → Unready (tripped reason x)
+trips-unready : (reason : Reason) (x : RuntimeState) → Unready (tripped reason x)
 unfolding tripped
 trips-unready reason x = go (eqb (number reason) (number Reason.Estop) || isEstopped x)
   where
@@ -42,7 +43,7 @@ trips-unready reason x = go (eqb (number reason) (number Reason.Estop) || isEsto
     go true = tt
     go false = tt
 
-pub stays-unready : (leased : Bool) (x : RuntimeState) → Unready x → Unready (refreshed leased x)
+stays-unready : (leased : Bool) (x : RuntimeState) → Unready x → Unready (refreshed leased x)
 unfolding refreshed
 stays-unready leased State.SafeIdle h = absurd h
 stays-unready leased State.Armed h = absurd h
@@ -83,20 +84,23 @@ unfolding axisHeld holdsOf
 none-held owner id b [] h = refl
 none-held owner id b (axis ∷ is) h = rw (h axis) (none-held owner id b is h)
 
+none-cleared : (axis : ℕ) (b : Book) → NoLease b → NoLease (cleared axis b)
+none-cleared axis b h = only-none (cleared axis b) (only-cleared axis [] b (λ i x e. not-both (h i) e))
+
 -- ---- the calls, on a halted book
 
 -- the newest event is neither an observe nor an execute item
-abbrev pub Calm : Log → Type 0
-Calm [] = Unit
-Calm (Took c ∷ l) = Unit
-Calm (Replied r ∷ l) = Unit
-Calm (Handed (ItemObserve axis) ∷ l) = ⊥
-Calm (Handed (ItemExecute c ps) ∷ l) = ⊥
-Calm (Handed (ItemFallback axis r) ∷ l) = Unit
-Calm (Handed (ItemRecord r) ∷ l) = Unit
+abbrev pub Quiet : Log → Type 0
+Quiet [] = Unit
+Quiet (Took c ∷ l) = Unit
+Quiet (Replied r ∷ l) = Unit
+Quiet (Handed (ItemObserve axis) ∷ l) = ⊥
+Quiet (Handed (ItemExecute c ps) ∷ l) = ⊥
+Quiet (Handed (ItemFallback axis r) ∷ l) = Unit
+Quiet (Handed (ItemRecord r) ∷ l) = Unit
 
 abbrev pub Waits : (RuntimeState → Type 0) → Log → Book → Type 0
-Waits N l b = Calm l × N (b .state)
+Waits N l b = Quiet l × N (b .state)
 
 pub throughout : (N : RuntimeState → Type 0) (E : Book → Answer → Type 0) (l : Log) (t : Interaction)
     → Safe (Waits N) (λ l b a. E b a) l t → Throughout N E t
@@ -106,54 +110,31 @@ throughout N E l (Execute c ps b k) h = h .0 .0
 throughout N E l (Fallback axis r b k) h = (h .0 .1, λ ok. throughout N E _ (k ok) (h .1 ok))
 throughout N E l (Record r b k) h = (h .0 .1, throughout N E _ k (h .1))
 
-pub waits-kept : (N : RuntimeState → Type 0) → Kept (Waits N) (Waits N)
-unfolding cleared bumpEpoch withEpoch withLeases withActive kept withNextReceipt withReceipts
-waits-kept N =
-    record {
-      weaken = λ l b h. h;
-      replied = λ r l b h. (tt, h .1);
-      falls = λ axis reason l b h. (tt, h .1);
-      records = λ r l b h. (tt, h .1);
-    }
-
 module _ (N : RuntimeState → Type 0) (n : Lasting N) (E : Book → Answer → Type 0)
     (ends : (b : Book) (a : Answer) → Other a → Halted N b → E b a) where
   abbrev Still : Log → Book → Type 0
-  Still l b = Calm l × Halted N b
+  Still l b = Quiet l × Halted N b
 
   abbrev End : Log → Book → Answer → Type 0
   End l b a = E b a
 
-  trips : (reason : Reason) (now : ℕ) (l : Log) (b : Book) (next : Book → Interaction) → Still l b
-      → ((l′ : Log) (b′ : Book) → Still l′ b′ → Safe (Waits N) End l′ (next b′)) → Safe (Waits N) End l (trip reason now b next)
-  unfolding withState
-  trips reason now l b next h f =
-      trip-on (Waits N) End (Waits N) (waits-kept N) reason now l b next (h .0, n .trips reason (b .state) (h .1 .0)) (λ i m. h .1 .1 i)
-      (λ l′ b′ h′ bare. f l′ b′ (h′ .0, (h′ .1, bare)))
-
-  turns : Turns (Waits N) End Still Still
+  still : Kept (Waits N) End Still
   unfolding cleared bumpEpoch withEpoch withLeases withActive kept withNextReceipt withReceipts refreshState withState withLastTick withStateAt withInvalidCount withFlags withEstopSeen
-  turns =
+  still =
       record {
-        holds =
-            record {
-              weaken = λ l b h. (h .0, h .1 .0);
-              replied = λ r l b h. (tt, h .1);
-              falls = λ axis reason l b h. (tt, (h .1 .0, λ i. none-falls axis b i (h .1 .1 i)));
-              records = λ r l b h. (tt, (h .1 .0, λ i. none-records r b i (h .1 .1 i)));
-            };
-        trips = trips;
-        stops = trips Reason.Estop;
-        before = λ l b h. h;
+        waits = λ l b h. (h .0, h .1 .0);
         ends = λ l b a o h. ends b a o (h .1);
-        ticks = λ now l b h. h;
+        replied = λ r l b h. (tt, h .1);
+        falls = λ axis reason l b h. (tt, (h .1 .0, none-cleared axis b (h .1 .1)));
+        records = λ r l b h. (tt, h .1);
+        trips = λ reason l b h. (h .0, (n .trips reason (b .state) (h .1 .0), h .1 .1));
         refreshes = λ l b h. (h .0, (n .refreshes _ (b .state) (h .1 .0), h .1 .1));
+        ticks = λ now l b h. h;
         stamps = λ now l b h. h;
+        flags = λ x l b h. h;
+        bumps = λ l b h. h;
+        sees = λ raised l b h. h;
         counts = λ x l b h. h;
-        flags = λ x l b e h. h;
-        flags₀ = λ x l b h. h;
-        stops₀ = λ x time l b h. h;
-        sees₀ = λ raised l b h. h;
       }
 
   refused : (now : ℕ) (b : Book) (cs : List Check) (next : Option Reason → Interaction) (l : Log) → Still l b
@@ -164,63 +145,50 @@ module _ (N : RuntimeState → Type 0) (n : Lasting N) (E : Book → Answer → 
   unfolding heldAxis canceled
   halts-cancel owner id now l b h = rw (none-held owner id b axes (h .1 .1)) (ends b (Refused Reason.Authority) tt (h .1))
 
-  -- where what follows a recovery's tick is known
+  -- every call, if the ends of a recovery are known
   halts-call : (c : Call) (b : Book)
-      → ((now : ℕ) → c ≡ RecoverLocal now → (l : Log) (b : Book) → Still l b → Safe (Waits N) End l (recover now b)) → Halted N b
-      → Safe (Waits N) End (Took c ∷ []) (begin c b)
+      → ((now : ℕ) → c ≡ RecoverLocal now → (good : Bool) (l : Log) (b : Book) → Still l b → Safe (Waits N) End l (recovered good b))
+      → Halted N b → Safe (Waits N) End (Took c ∷ []) (begin c b)
   unfolding begin updateState recoverLocal acquire acquireChecks grant renew renewChecks renewed cancel submit validate admission verdict admit
-  halts-call (Tick now) b f h = walk-tick _ _ _ _ turns now _ b _ (tt, h) (λ l′ b′ h′. ends b′ Returned tt (h′ .1))
-  halts-call (UpdateState x now) b f h = walk-tick _ _ _ _ turns now _ b _ (tt, h) (walk-sense _ _ _ _ turns x now)
-  halts-call (EmergencyStop now) b f h = walk-stop _ _ _ _ turns now _ b _ (tt, h) (λ l′ b′ h′. ends b′ Returned tt (h′ .1))
-  halts-call (PollEstop raised now) b f h = walk-poll _ _ _ _ turns raised now _ b (tt, h)
-  halts-call (RecoverLocal now) b f h = walk-tick _ _ _ _ turns now _ b _ (tt, h) (f now refl)
+  halts-call (Tick now) b f h = walk-tick _ _ _ still now _ b _ (tt, h) (λ l′ b′ h′. ends b′ Returned tt (h′ .1))
+  halts-call (UpdateState x now) b f h = walk-tick _ _ _ still now _ b _ (tt, h) (walk-sense _ _ _ still x now)
+  halts-call (EmergencyStop now) b f h = walk-stop _ _ _ still now _ b _ (tt, h) (λ l′ b′ h′. ends b′ Returned tt (h′ .1))
+  halts-call (PollEstop raised now) b f h = walk-poll _ _ _ still raised now _ b (tt, h)
+  halts-call (RecoverLocal now) b f h = walk-tick _ _ _ still now _ b _ (tt, h) (walk-recover _ _ _ still (f now refl) now)
   halts-call (Acquire r now) b f h =
-      walk-tick _ _ _ _ turns now _ b _ (tt, h)
+      walk-tick _ _ _ still now _ b _ (tt, h)
       (λ l′ b′ h′. refused now b′ _ (λ o. grant o r now b′) l′ h′ (λ reason. ends b′ (Refused reason) tt (h′ .1)))
   halts-call (Renew r) b f h =
-      walk-tick _ _ _ _ turns (r .now) _ b _ (tt, h)
+      walk-tick _ _ _ still (r .now) _ b _ (tt, h)
       (λ l′ b′ h′. refused (r .now) b′ _ (λ o. renewed o r b′) l′ h′ (λ reason. ends b′ (Refused reason) tt (h′ .1)))
-  halts-call (Cancel owner id now) b f h = walk-tick _ _ _ _ turns now _ b _ (tt, h) (halts-cancel owner id now)
+  halts-call (Cancel owner id now) b f h = walk-tick _ _ _ still now _ b _ (tt, h) (halts-cancel owner id now)
   halts-call (Submit o) b f h =
-      walk-tick _ _ _ _ turns (o .now) _ b _ (tt, h)
+      walk-tick _ _ _ still (o .now) _ b _ (tt, h)
       (λ l′ b′ h′.
       refused (o .now) b′ _ (λ x. admit (verdict x (orderCapability o b′) (orderLease o b′)) o b′) l′ h′
-      (λ reason. walk-reject _ _ _ _ turns reason o l′ b′ h′))
+      (λ reason. walk-reject _ _ _ still reason o l′ b′ h′))
 
 unlifted : (N : RuntimeState → Type 0) (b : Book) (a : Answer) → Other a → Halted N b → Unlifted N b a
 unlifted N b a o h = (h, λ e. subst Other e o)
 
 -- a recovery ends in a success or halted
-recovers : (now : ℕ) (l : Log) (b : Book) → Calm l × Halted Unready b → Safe (Waits Unready) (λ l b a. Lifted b a) l (recover now b)
-unfolding recover recovered withState withInvalidCount
-recovers now l b h = go (meetsEstop (b .flags) (b .config)) (ltb now (b .lastTick) || (isStale now b || exhausted b))
-  where
-    after : (good : Bool) (l′ : Log) (b′ : Book) → Waits Unready l′ b′ → NoLease b′
-        → Safe (Waits Unready) (λ l b a. Lifted b a) l′ (recovered good b′)
-    after true l′ b′ h′ bare = inl (refl, refl)
-    after false l′ b′ h′ bare = inr (unlifted Unready (withState State.Faulted b′) (Refused Reason.Driver) tt (tt, bare))
-
-    go : (t u : Bool) → Safe (Waits Unready) (λ l b a. Lifted b a) l
-        (cond t (Done b (Refused Reason.Estop))
-        (cond u (Done b (Refused Reason.Precondition)) (recoveries (usedAxes (b .capabilities)) true now b)))
-    go true u = inr (unlifted Unready b (Refused Reason.Estop) tt (h .1))
-    go false true = inr (unlifted Unready b (Refused Reason.Precondition) tt (h .1))
-    go false false =
-        recover-on (Waits Unready) (λ l b a. Lifted b a) (Waits Unready) (waits-kept Unready) (usedAxes (b .capabilities)) true now l b
-        (h .0, h .1 .0) (λ axis m. h .1 .1 axis) after
+recovered-ends : (good : Bool) (l : Log) (b : Book) → Quiet l × Halted Unready b
+    → Safe (Waits Unready) (λ l b a. Lifted b a) l (recovered good b)
+unfolding recovered withState withInvalidCount
+recovered-ends true l b h = inl (refl, refl)
+recovered-ends false l b h = inr (unlifted Unready (withState State.Faulted b) (Refused Reason.Driver) tt (tt, h .1 .1))
 
 -- so does every call
 lifted-call : (c : Call) (b : Book) → Halted Unready b → Throughout Unready Lifted (begin c b)
 lifted-call c b h =
     throughout Unready Lifted (Took c ∷ []) (begin c b)
-    (halts-call Unready unready-lasts Lifted (λ b a o k. inr (unlifted Unready b a o k)) c b (λ now e. recovers now) h)
+    (halts-call Unready unready-lasts Lifted (λ b a o k. inr (unlifted Unready b a o k)) c b (λ now e. recovered-ends) h)
 
 -- and no other ends in a success
 unlifted-call : (N : RuntimeState → Type 0) → Lasting N → (c : Call) (b : Book) → ((now : ℕ) → c ≢ RecoverLocal now) → Halted N b
     → Throughout N (Unlifted N) (begin c b)
 unlifted-call N n c b other h =
-    throughout N (Unlifted N) (Took c ∷ []) (begin c b)
-    (halts-call N n (Unlifted N) (unlifted N) c b (λ now e. absurd (other now e)) h)
+    throughout N (Unlifted N) (Took c ∷ []) (begin c b) (halts-call N n (Unlifted N) (unlifted N) c b (λ now e. absurd (other now e)) h)
 
 pub only-recovery : (b : Book) → Halted Unready b → (c : Call) → ((now : ℕ) → c ≢ RecoverLocal now)
     → Throughout Unready (Unlifted Unready) (begin c b)
