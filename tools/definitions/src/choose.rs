@@ -7,6 +7,7 @@ use oracle::counts::Counts;
 use oracle::driver::Item;
 use oracle::life::Call;
 use oracle::run::{run_life, Answer, CallTrace, LifeTrace, Options};
+use oracle::runtime_core::Decision;
 use std::collections::HashSet;
 
 /// How many lives are looked at for each one that is taken, and how many at most.
@@ -54,17 +55,17 @@ pub fn choose(seed: u64, lives: u64, calls: u64) -> Choice {
 /// Something that a life reaches: a group and a name in it.
 type Row = (&'static str, String);
 
-/// What a life reaches: a row of the oracle's counts, or two checks that an order fails at
-/// once, which shows their order.
+/// What a life reaches: the rows of the oracle's counts, and the first two checks that an order
+/// fails at once, which show their order.
 fn rows(trace: &LifeTrace) -> HashSet<Row> {
     let mut counts = Counts::default();
     counts.add(trace);
     let hit = counts.rows().iter().filter(|row| row.count > 0);
     let mut rows: HashSet<Row> = hit.map(|row| (row.group, row.name.to_string())).collect();
     for call in &trace.calls {
-        let failed = failed_checks(call).unwrap_or_default();
-        let pairs = failed.windows(2);
-        rows.extend(pairs.map(|two| ("order fails", format!("{} and {}", two[0], two[1]))));
+        if let Some([first, second, ..]) = failed_checks(call).as_deref() {
+            rows.insert(("order fails", format!("{first} and {second}")));
+        }
     }
     rows
 }
@@ -74,6 +75,9 @@ fn failed_checks(call: &CallTrace) -> Option<Vec<usize>> {
     let (Call::Submit(order), Answer::Receipt(receipt)) = (call.step.call, call.answer) else {
         return None;
     };
+    if receipt.decision != Decision::Rejected {
+        return None;
+    }
     // While its receipt is recorded all is as the opening tick left it, but for the receipt.
     let record = Item::Record { receipt };
     let at = call.items.iter().find(|item| item.item == record)?;

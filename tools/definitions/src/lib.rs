@@ -16,4 +16,5 @@ pub mod prover;
 pub mod scratch;
 pub mod text;
 pub mod turns;
+pub mod vary;
 pub mod weave;

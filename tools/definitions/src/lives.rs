@@ -3,13 +3,14 @@
 use crate::choose::choose;
 use crate::text;
 use crate::turns::{moments, Event, Moment, Output, Place};
+use crate::vary::vary;
 use crate::weave::{weave, Script};
 use oracle::driver::Item;
 use oracle::generate::Generator;
-use oracle::life::{Call, Counter, Life, Reply};
+use oracle::life::{Call, Counter, Life};
 use oracle::prng::Prng;
 use oracle::run::{run_life, LifeTrace, Options};
-use oracle::runtime_core::{Decision, Observation, Reason, RECEIPT_CAPACITY, REPLAY_CAPACITY};
+use oracle::runtime_core::{Decision, Reason, RECEIPT_CAPACITY, REPLAY_CAPACITY};
 
 /// One life in so many is long, and one brings a counter to the top.
 pub const EVERY: u64 = 20;
@@ -105,7 +106,7 @@ pub fn life(seed: u64, number: u64, calls: u64) -> Life {
         9 if oracle::HAS_COUNTERS => top_life(seed, number, calls),
         _ => usual_life(seed, number, calls),
     };
-    see_something_first(&mut life, &mut Prng::new(!seed, number));
+    vary(&mut life, &mut Prng::new(!seed, number));
     life
 }
 
@@ -179,23 +180,6 @@ fn usual_life(seed: u64, number: u64, calls: u64) -> Life {
     let calls = usize::try_from(calls).unwrap_or(usize::MAX);
     life.steps.truncate(calls);
     life
-}
-
-/// The generator lets a first observation that a failure follows show state 0; so that it
-/// tells something, it shows any state here.
-fn see_something_first(life: &mut Life, rng: &mut Prng) {
-    for step in &mut life.steps {
-        let order = matches!(step.call, Call::Submit(_));
-        let fails = step.replies.contains(&Reply::Fail);
-        if let (true, true, Some(first)) = (order, fails, step.replies.first_mut()) {
-            if *first == Reply::Ok {
-                *first = Reply::See(Observation {
-                    parameters: [rng.draw() as i32, 0],
-                    state: rng.draw() as u32,
-                });
-            }
-        }
-    }
 }
 
 /// The first life, of those that have this number among others, that is as wanted.
