@@ -200,6 +200,14 @@ pub struct Action {
     pub parameters: [i32; 2],
 }
 
+// A submission: the order, who brings it, when it was received, and the time of the call (the arguments of `submit`).
+pub struct Submission {
+    pub action: Action,
+    pub principal: u64,
+    pub received_at: u64,
+    pub now: u64,
+}
+
 pub struct LeaseRequest {
     pub owner: u64,
     pub resource: u8,
@@ -207,6 +215,15 @@ pub struct LeaseRequest {
     pub capabilities: u64,
     pub duration_ms: u32,
     pub limits: [Bounds; 2],
+}
+
+// A renewal: whose lease, which one, the number of the renewal, for how long, and the time of the call (the arguments of `renew`).
+pub struct Renewal {
+    pub owner: u64,
+    pub lease_id: u64,
+    pub renewal: u64,
+    pub duration_ms: u32,
+    pub now: u64,
 }
 
 pub struct Lease {

@@ -16,13 +16,13 @@ use Rattle.model.specs.declared.Lease.{Lease}
 use Rattle.model.specs.declared.Replay.{Replay}
 use Rattle.model.specs.declared.RuntimeState.{RuntimeState}
 use Rattle.model.specs.declared.RuntimeState.the-variants as State
+use Rattle.model.specs.declared.Submission.{Submission}
 use Rattle.model.specs.Bounds.{contains}
 use Rattle.model.specs.Words.{shareNoBit}
 use Rattle.model.proofs.Tests.{and-when, and-both}
 use Rattle.model.proofs.Meaning.{contains-means, means-contains, permits-means, means-permits}
 use Rattle.rules.proofs.Basics.{neither}
 use Rattle.rules.specs.Book.{Book, leaseAt}
-use Rattle.rules.specs.Receipts.{Submission}
 use Rattle.rules.specs.Admission.{Check, firstFailing, holdsOf, isSome, isEstopped, isFaulted, isStale, ready, badDuration, orderCapability, leaseFor, orderLease, hasBit, authorizes, wellFormed, isEntry, findEntry, replayed, validUntil, allContain, admission}
 use Rattle.rules.specs.Admissible.{Mem, Inside, Admissible}
 
@@ -188,7 +188,7 @@ authorizing s l i o m = sym (and-when (eq-eqb _ _ i) (and-when (eq-eqb _ _ o) (s
 -- the parts of the check that answers 10
 pub record Formed (s : Submission) (b : Book) : Type 0 where
   pub numbered : (s .action .«action_id» ≢ 0) × (s .action .sequence ≢ 0)
-  pub received : s .receivedAt ≤ s .now
+  pub received : s .«received_at» ≤ s .now
   pub validity : (s .action .«valid_for_ms» ≢ 0) × (s .action .«valid_for_ms» ≤ b .config .«max_valid_for_ms»)
   pub window : s .action .«execute_after» < s .action .deadline
 
@@ -197,7 +197,7 @@ unfolding wellFormed
 formed s b h =
     let k₁ = and-both (not (eqb (s .action .«action_id») 0)) _ h in
     let k₂ = and-both (not (eqb (s .action .sequence) 0)) _ (k₁ .1) in
-    let k₃ = and-both (leb (s .receivedAt) (s .now)) _ (k₂ .1) in
+    let k₃ = and-both (leb (s .«received_at») (s .now)) _ (k₂ .1) in
     let k₄ = and-both (not (badDuration (s .action .«valid_for_ms») (b .config .«max_valid_for_ms»))) _ (k₃ .1) in
     record {
       numbered = (nonzero _ (k₁ .0), nonzero _ (k₂ .0));

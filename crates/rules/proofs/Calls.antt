@@ -18,16 +18,18 @@ use Rattle.model.specs.declared.Observation.{Observation}
 use Rattle.model.specs.declared.Reason.{Reason}
 use Rattle.model.specs.declared.Reason.the-variants as Reason
 use Rattle.model.specs.declared.Receipt.{Receipt}
+use Rattle.model.specs.declared.Renewal.{Renewal}
 use Rattle.model.specs.declared.RuntimeState.{RuntimeState}
 use Rattle.model.specs.declared.RuntimeState.the-variants as State
+use Rattle.model.specs.declared.Submission.{Submission}
 use Rattle.model.specs.Reasons.{number}
 use Rattle.model.specs.Soundness.{axisUsed}
 use Rattle.model.specs.Words.{permits}
 use Rattle.model.proofs.Tests.{and-both}
 use Rattle.rules.specs.Book.{Book, leaseAt, activeAt, withLeases, withActive, withReceipts, withNextReceipt, withNextLease, withEpoch, withFlags, withStateAt, withLastTick, withState, withEstopSeen}
-use Rattle.rules.specs.Receipts.{bump, kept, numbered, event, Submission, Progress, notSent, orderReceipt}
+use Rattle.rules.specs.Receipts.{bump, kept, numbered, event, Progress, notSent, orderReceipt}
 use Rattle.rules.specs.Interaction.{Answer, Returned, Polled, Succeeded, Refused, Submitted, Interaction, Done, Observe}
-use Rattle.rules.specs.Admission.{firstFailing, holdsOf, isArmed, isEstopped, isFaulted, isStale, ready, isFree, validRequest, axes, acquireChecks, Renewal, heldAxis, leaseOn, heldLease, withId, orderCapability, orderLease, verdict, validate, admission}
+use Rattle.rules.specs.Admission.{firstFailing, holdsOf, isArmed, isEstopped, isFaulted, isStale, ready, isFree, validRequest, axes, acquireChecks, heldAxis, leaseOn, heldLease, withId, orderCapability, orderLease, verdict, validate, admission}
 use Rattle.rules.specs.Admissible.{Mem}
 use Rattle.rules.specs.Rules.{usedAxes, bumpEpoch, recordReceipt, refreshState, cleared, fallback, trip, fallbackOrTrip, exhausted, tick, preconditions, meetsEstop, newFlags, sense, updateState, emergencyStop, pollEstop, recovered, recoveries, recover, recoverLocal, newLease, granted, leased, grant, acquire, extended, extend, renewed, renew, canceled, cancel, storm, reject, consumed, streamEnd, fail, complete, verified, verify, dispatch, admit, submit}
 use Rattle.rules.specs.Protocol.{Call, Tick, UpdateState, EmergencyStop, PollEstop, RecoverLocal, Acquire, Renew, Cancel, Submit, Reply, Observed, Executed, Recorded, ItemObserve, ItemExecute, ItemFallback, ItemRecord, Start, begin}
@@ -288,7 +290,7 @@ module _ (s : Start) where
   inv-renewal : (r : Renewal) (o : Option Reason) (l : Log) (b : Book) → InHand (Renew r) l b → Safe (I s) End l (renewed o r b)
   unfolding renewed heldLease
   inv-renewal r (some reason) l b h = h .0
-  inv-renewal r none l b h = inv-extend r (heldAxis (r .owner) (r .lease) b) _ l b refl h
+  inv-renewal r none l b h = inv-extend r (heldAxis (r .owner) (r .«lease_id») b) _ l b refl h
 
   -- ---- submit
 

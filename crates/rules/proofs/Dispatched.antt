@@ -16,11 +16,13 @@ use Rattle.model.specs.declared.Lease.{Lease}
 use Rattle.model.specs.declared.LeaseRequest.{LeaseRequest}
 use Rattle.model.specs.declared.Observation.{Observation}
 use Rattle.model.specs.declared.Reason.{Reason}
+use Rattle.model.specs.declared.Renewal.{Renewal}
+use Rattle.model.specs.declared.Submission.{Submission}
 use Rattle.model.specs.Words.{shareNoBit}
 use Rattle.rules.specs.Book.{Book, leaseAt, withLeases, withActive, withReplay, withReceipts, withNextReceipt, withNextLease, withEpoch, withFlags, withStateAt, withLastTick, withState, withInvalidCount, withEstopSeen}
-use Rattle.rules.specs.Receipts.{kept, Submission, Progress}
+use Rattle.rules.specs.Receipts.{kept, Progress}
 use Rattle.rules.specs.Interaction.{Answer, Refused, Succeeded, Done, Observe}
-use Rattle.rules.specs.Admission.{Check, firstFailing, ready, Renewal, withId, orderCapability, leaseFor, orderLease, admission, Admits, verdict, validate}
+use Rattle.rules.specs.Admission.{Check, firstFailing, ready, withId, orderCapability, leaseFor, orderLease, admission, Admits, verdict, validate}
 use Rattle.rules.specs.Admissible.{Inside, Admissible}
 use Rattle.rules.specs.Rules.{bumpEpoch, refreshState, cleared, trip, meetsEstop, updateState, recovered, recoverLocal, granted, leased, grant, acquire, extend, renewed, renew, canceled, cancel, withSequence, consumed, fail, streamEnd, complete, verified, verify, dispatch, admit, submit}
 use Rattle.rules.specs.Protocol.{Call, Tick, UpdateState, EmergencyStop, PollEstop, RecoverLocal, Acquire, Renew, Cancel, Submit, Observed, Executed, Item, ItemObserve, ItemExecute, ItemFallback, ItemRecord, Hands, Start, Phase, Starting, Gone, Idle, Waiting, waitBook, bookIn, opening, begin, react}

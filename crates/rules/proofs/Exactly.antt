@@ -15,8 +15,9 @@ use Rattle.model.specs.declared.Observation.{Observation}
 use Rattle.model.specs.declared.Reason.{Reason}
 use Rattle.model.specs.declared.Reason.the-variants as Reason
 use Rattle.model.specs.declared.Receipt.{Receipt}
+use Rattle.model.specs.declared.Submission.{Submission}
 use Rattle.rules.specs.Book.{Book}
-use Rattle.rules.specs.Receipts.{Submission, Progress}
+use Rattle.rules.specs.Receipts.{Progress}
 use Rattle.rules.specs.Interaction.{Answer, Returned, Interaction, Done}
 use Rattle.rules.specs.Admission.{firstFailing, isArmed, withId, orderCapability, leaseFor, orderLease, admission, Verdict, Admits, Rejects, verdict, validate}
 use Rattle.rules.specs.Admissible.{Mem, Admissible}

@@ -7,9 +7,9 @@ use mathlib.Core.Logic.{_⊎_, inl, inr, ⊎-elim}
 use mathlib.Core.Option.{Option, some, none, Option·none-ne-some, Option·some-ne-none}
 use mathlib.Core.Path.{_≡_, refl, sym, ap, _∙_, subst}
 use lib.IntN.{ℤ}
+use Rattle.model.specs.declared.Submission.{Submission}
 use Rattle.rules.specs.Book.{Book}
 use Rattle.rules.specs.Interaction.{Interaction, Done, Observe, Execute, Fallback, Record}
-use Rattle.rules.specs.Receipts.{Submission}
 use Rattle.rules.specs.Admissible.{Mem}
 use Rattle.rules.specs.Protocol.{Call, Submit, Reply, FellBack, Input, Replies, Item, ItemExecute, Output, Started, StartRefused, Hands, Answers, Reminds, Refuses, Shows, NoRuntime, Start, Phase, bookIn, begin, proceed, start, called, effect, apply, react}
 use Rattle.rules.specs.Log.{History, phaseAt, outputAt, Event, Took, Replied, Handed, Log, handed, tookEffect, arrived, extended, logOf, opened, bookBefore, callOf, Exchange, withReply, withItem, current, submissionOf, reaching, executed}

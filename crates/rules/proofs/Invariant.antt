@@ -19,13 +19,14 @@ use Rattle.model.specs.declared.Lease.{Lease}
 use Rattle.model.specs.declared.LeaseRequest.{LeaseRequest}
 use Rattle.model.specs.declared.Reason.{Reason}
 use Rattle.model.specs.declared.Receipt.{Receipt}
+use Rattle.model.specs.declared.Renewal.{Renewal}
 use Rattle.model.specs.declared.Replay.{Replay}
 use Rattle.model.specs.declared.RuntimeState.{RuntimeState}
+use Rattle.model.specs.declared.Submission.{Submission}
 use Rattle.model.specs.Soundness.{axisUsed, sound}
 use Rattle.model.proofs.Meaning.{sound-axis}
 use Rattle.rules.specs.Book.{Book, leaseAt, withLeases, withActive, withReplay, withReceipts, withNextReceipt, withNextLease, withEpoch, withFlags, withStateAt, withLastTick, withState, withInvalidCount, withEstopSeen}
-use Rattle.rules.specs.Receipts.{top, bump, receiptCapacity, keep, kept, Submission}
-use Rattle.rules.specs.Admission.{Renewal}
+use Rattle.rules.specs.Receipts.{top, bump, receiptCapacity, keep, kept}
 use Rattle.rules.specs.Rules.{replayCapacity, bumpEpoch, cleared, refreshState, newLease, granted, extended, withSequence, consumed}
 use Rattle.rules.specs.Protocol.{Call, Tick, UpdateState, EmergencyStop, PollEstop, RecoverLocal, Acquire, Renew, Cancel, Submit, Reply, ItemObserve, ItemExecute, ItemFallback, ItemRecord, Start, opening, refusedStart}
 use Rattle.rules.specs.Log.{Took, Replied, Handed, Log, callOf, submissionOf, reaching, executed, counted, nextNumber, keptAfter, receiptsOf, observing, Admitted, admittedAs, admitting, admissions, entryOf, highest, Tenancy, tenancyOf, until, renewedBy, isControl, isGrant, recordedOn, holding, live, afterFallback, epochAfter, leastEpoch, epochTaken, mostEpoch}

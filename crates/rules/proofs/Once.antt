@@ -7,8 +7,8 @@ use mathlib.Core.Path.{_≡_, refl, sym, ap, _∙_, subst}
 use lib.IntN.{ℤ}
 use Rattle.model.specs.declared.Action.{Action}
 use Rattle.model.specs.declared.Receipt.{Receipt}
+use Rattle.model.specs.declared.Submission.{Submission}
 use Rattle.rules.specs.Book.{Book}
-use Rattle.rules.specs.Receipts.{Submission}
 use Rattle.rules.specs.Protocol.{Submit, Item, ItemObserve, ItemExecute, ItemRecord, Hands, Start, Phase, Starting, Gone, Idle, Waiting, waitBook, bookIn, start, react}
 use Rattle.rules.specs.Lives.{Life}
 use Rattle.rules.specs.Log.{History, phaseAt, outputAt, Handed, Log, handed, arrived, extended, logOf, executed, executedBy, executedIn}

@@ -15,17 +15,19 @@ use Rattle.model.specs.declared.Observation.{Observation}
 use Rattle.model.specs.declared.Reason.{Reason}
 use Rattle.model.specs.declared.Reason.the-variants as Reason
 use Rattle.model.specs.declared.Receipt.{Receipt}
+use Rattle.model.specs.declared.Renewal.{Renewal}
 use Rattle.model.specs.declared.RuntimeState.{RuntimeState}
 use Rattle.model.specs.declared.RuntimeState.the-variants as State
+use Rattle.model.specs.declared.Submission.{Submission}
 use Rattle.model.specs.Lists.{all}
 use Rattle.model.specs.Reasons.{number}
 use Rattle.model.specs.Soundness.{axisUsed}
 use Rattle.model.specs.Words.{permits}
 use Rattle.model.proofs.Tests.{and-both}
 use Rattle.rules.specs.Book.{Book, activeAt, withActive, withReplay, withEpoch, withFlags, withStateAt, withLastTick, withState, withInvalidCount, withEstopSeen}
-use Rattle.rules.specs.Receipts.{isRejected, numbered, event, Submission, Progress, notSent, orderReceipt}
+use Rattle.rules.specs.Receipts.{isRejected, numbered, event, Progress, notSent, orderReceipt}
 use Rattle.rules.specs.Interaction.{Answer, Returned, Polled, Succeeded, Leased, Refused, Submitted, Interaction, Done, Observe}
-use Rattle.rules.specs.Admission.{Check, check, firstFailing, holdsOf, isArmed, isEstopped, isFaulted, isStale, ready, validRequest, axes, acquireChecks, Renewal, renewChecks, heldAxis, leaseOn, heldLease, orderCapability, orderLease, verdict, validate, admission}
+use Rattle.rules.specs.Admission.{Check, check, firstFailing, holdsOf, isArmed, isEstopped, isFaulted, isStale, ready, validRequest, axes, acquireChecks, renewChecks, heldAxis, leaseOn, heldLease, orderCapability, orderLease, verdict, validate, admission}
 use Rattle.rules.specs.Rules.{usedAxes, bumpEpoch, refreshState, tripped, trip, fallbackOrTrip, exhausted, preconditions, meetsEstop, newFlags, sense, updateState, emergencyStop, pollEstop, recovered, recoveries, recover, recoverLocal, newLease, leased, grant, acquire, extended, extend, renewed, renew, canceled, cancel, storm, reject, withSequence, consumed, fail, streamEnd, complete, verified, verify, dispatch, admit, submit}
 use Rattle.rules.specs.Protocol.{Call, Tick, UpdateState, EmergencyStop, PollEstop, RecoverLocal, Acquire, Renew, Cancel, Submit, Executed, ItemExecute, Start, begin}
 use Rattle.rules.specs.Log.{Took, Replied, Handed, Log}
@@ -255,7 +257,7 @@ module _ (s : Start) where
       → Safe (Seen s) End l (renewed o r b)
   unfolding renewed renewChecks heldLease
   end-renewed r l b h time (some reason) e = (h, other reason (ready-other (r .now) b _ reason time refl e))
-  end-renewed r l b h time none e = end-extend r (heldAxis (r .owner) (r .lease) b) _ l b refl h
+  end-renewed r l b h time none e = end-extend r (heldAxis (r .owner) (r .«lease_id») b) _ l b refl h
 
   -- ---- submit
 

@@ -7,9 +7,10 @@ use mathlib.Core.Option.{Option, some, none}
 use lib.Dec.{ltb, leb, eqb}
 use Rattle.model.specs.declared.Reason.{Reason}
 use Rattle.model.specs.declared.Receipt.{Receipt}
+use Rattle.model.specs.declared.Submission.{Submission}
 use Rattle.model.specs.Words.{permits}
 use Rattle.rules.specs.Book.{Book, leaseAt, activeAt, withFlags, withStateAt, withLastTick, withState, withInvalidCount, withEstopSeen}
-use Rattle.rules.specs.Receipts.{kept, Submission}
+use Rattle.rules.specs.Receipts.{kept}
 use Rattle.rules.specs.Interaction.{Answer, Returned, Polled, Succeeded, Leased, Refused, Submitted, Interaction, Done}
 use Rattle.rules.specs.Admission.{holdsOf, isArmed, isStale, axes}
 use Rattle.rules.specs.Rules.{usedAxes, bumpEpoch, recordReceipt, refreshState, cleared, fallback, tripped, trip, fallbackOrTrip, exhausted, watchdog, staleness, due, fallbackIf, expiries, supervise, tick, preconditions, meetsEstop, newFlags, sense, emergencyStop, pollEstop, recovered, recoveries, recover, storm, reject}

@@ -13,8 +13,9 @@ use Rattle.model.specs.declared.Capability.{Capability}
 use Rattle.model.specs.declared.Lease.{Lease}
 use Rattle.model.specs.declared.Replay.{Replay}
 use Rattle.model.specs.declared.RuntimeState.the-variants as State
+use Rattle.model.specs.declared.Submission.{Submission}
 use Rattle.rules.specs.Book.{Book, leaseAt}
-use Rattle.rules.specs.Receipts.{top, Submission}
+use Rattle.rules.specs.Receipts.{top}
 use Rattle.rules.specs.Admission.{orderCapability}
 
 abbrev pub Mem : {A : Type 0} → A → List A → Type 0
@@ -49,7 +50,7 @@ pub record Admissible (s : Submission) (b : Book) : Type 0 where
       × ((lease .owner ≡ s .principal) × (bitAnd (lease .capabilities) (2 ^ s .action .capability) ≢ 0))
   -- 10 action id or sequence 0, received after now, validity 0 or over limit, execute_after ≥ deadline
   pub numbered : (s .action .«action_id» ≢ 0) × (s .action .sequence ≢ 0)
-  pub received : s .receivedAt ≤ s .now
+  pub received : s .«received_at» ≤ s .now
   pub validity : (s .action .«valid_for_ms» ≢ 0) × (s .action .«valid_for_ms» ≤ b .config .«max_valid_for_ms»)
   pub window : s .action .«execute_after» < s .action .deadline
   -- 4 same owner and action id in the replay ring
@@ -57,9 +58,9 @@ pub record Admissible (s : Submission) (b : Book) : Type 0 where
   -- 6 sequence not above the lease's last
   pub sequence : lease .«last_sequence» < s .action .sequence
   -- 10 received plus validity past u64
-  pub fits : s .receivedAt + s .action .«valid_for_ms» ≤ top
+  pub fits : s .«received_at» + s .action .«valid_for_ms» ≤ top
   -- 2 now ≥ deadline or ≥ that sum
-  pub in-time : (s .now < s .action .deadline) × (s .now < s .receivedAt + s .action .«valid_for_ms»)
+  pub in-time : (s .now < s .action .deadline) × (s .now < s .«received_at» + s .action .«valid_for_ms»)
   -- 9 now before execute_after
   pub not-early : s .action .«execute_after» ≤ s .now
   -- 7 epoch

@@ -12,15 +12,17 @@ use Rattle.model.specs.declared.Lease.{Lease}
 use Rattle.model.specs.declared.LeaseRequest.{LeaseRequest}
 use Rattle.model.specs.declared.Reason.{Reason}
 use Rattle.model.specs.declared.Reason.the-variants.{Bound, Stale, Authority, Duplicate, Precondition, OldSequence, Epoch, UnknownCapability, TooEarly, Invalid, Estop, Faulted, Clock, Busy, StateStale, BootMismatch}
+use Rattle.model.specs.declared.Renewal.{Renewal}
 use Rattle.model.specs.declared.Replay.{Replay}
 use Rattle.model.specs.declared.RuntimeState.{RuntimeState}
 use Rattle.model.specs.declared.RuntimeState.the-variants as State
+use Rattle.model.specs.declared.Submission.{Submission}
 use Rattle.model.specs.Lists.{all}
 use Rattle.model.specs.Bounds.{contains, ordered}
 use Rattle.model.specs.Words.{shareNoBit, inside, permits}
 use Rattle.model.specs.Soundness.{axisUsed}
 use Rattle.rules.specs.Book.{Book, leaseAt}
-use Rattle.rules.specs.Receipts.{top, Submission}
+use Rattle.rules.specs.Receipts.{top}
 
 pub record Check : Type 0 where
   pub holds : Bool
@@ -107,14 +109,6 @@ acquireChecks r now b =
 
 -- renew --------------------------------------------------------------------------------------------------------------
 
--- a renewal: whose lease, which one, the number of the renewal, for how long, and the time of the call
-pub record Renewal : Type 0 where
-  pub owner : ℕ
-  pub lease : ℕ
-  pub renewal : ℕ
-  pub duration : ℕ
-  pub now : ℕ
-
 unfoldable pub isHeldBy : ℕ → ℕ → Lease → Bool
 isHeldBy owner id l = eqb (l .id) id && eqb (l .owner) owner
 
@@ -145,10 +139,10 @@ isSome (some a) = true
 unfoldable pub renewChecks : Renewal → Book → List Check
 renewChecks r b =
     ready (r .now) b
-    ++ (check (not (badDuration (r .duration) (b .config .«max_lease_ms»))) Invalid
-    ∷ check (isSome (heldLease (r .owner) (r .lease) b)) Authority
-    ∷ check (holdsOf (heldLease (r .owner) (r .lease) b) (λ l. ltb (l .«last_renewal») (r .renewal))) OldSequence
-    ∷ check (leb (r .now + r .duration) top) Invalid
+    ++ (check (not (badDuration (r .«duration_ms») (b .config .«max_lease_ms»))) Invalid
+    ∷ check (isSome (heldLease (r .owner) (r .«lease_id») b)) Authority
+    ∷ check (holdsOf (heldLease (r .owner) (r .«lease_id») b) (λ l. ltb (l .«last_renewal») (r .renewal))) OldSequence
+    ∷ check (leb (r .now + r .«duration_ms») top) Invalid
     ∷ [])
 
 -- submit -------------------------------------------------------------------------------------------------------------
@@ -181,7 +175,7 @@ unfoldable pub wellFormed : Submission → Book → Bool
 wellFormed s b =
     not (eqb (s .action .«action_id») 0)
     && (not (eqb (s .action .sequence) 0)
-    && (leb (s .receivedAt) (s .now)
+    && (leb (s .«received_at») (s .now)
     && (not (badDuration (s .action .«valid_for_ms») (b .config .«max_valid_for_ms»)) && ltb (s .action .«execute_after») (s .action .deadline))))
 
 unfoldable pub isEntry : ℕ → ℕ → Replay → Bool
@@ -197,7 +191,7 @@ replayed s b = findEntry (s .principal) (s .action .«action_id») (b .replay)
 
 -- the end of an order's validity
 unfoldable pub validUntil : Submission → ℕ
-validUntil s = s .receivedAt + s .action .«valid_for_ms»
+validUntil s = s .«received_at» + s .action .«valid_for_ms»
 
 unfoldable pub allContain : List Bounds → List ℤ → Bool
 allContain [] ps = true

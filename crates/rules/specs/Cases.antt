@@ -127,7 +127,7 @@ drive first epoch =
             parameters = first ∷ negsuc 49 ∷ [];
           };
       principal = 7;
-      receivedAt = 0;
+      «received_at» = 0;
       now = 10;
     }))
 

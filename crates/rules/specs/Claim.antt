@@ -18,9 +18,10 @@ use Rattle.model.specs.declared.Reason.{Reason}
 use Rattle.model.specs.declared.Reason.the-variants.{Startup}
 use Rattle.model.specs.declared.Receipt.{Receipt}
 use Rattle.model.specs.declared.Replay.{Replay}
+use Rattle.model.specs.declared.Submission.{Submission}
 use Rattle.model.specs.Soundness.{sound}
 use Rattle.rules.specs.Book.{Book, leaseAt}
-use Rattle.rules.specs.Receipts.{top, Submission}
+use Rattle.rules.specs.Receipts.{top}
 use Rattle.rules.specs.Interaction.{Returned, Interaction, Done, Observe, Execute, Fallback, Record}
 use Rattle.rules.specs.Admission.{withId}
 use Rattle.rules.specs.Admissible.{Mem, Admissible}

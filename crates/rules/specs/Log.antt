@@ -12,9 +12,10 @@ use Rattle.model.specs.declared.Decision.the-variants as Decision
 use Rattle.model.specs.declared.Receipt.{Receipt}
 use Rattle.model.specs.declared.Replay.{Replay}
 use Rattle.model.specs.declared.Reason.the-variants as Reason
+use Rattle.model.specs.declared.Submission.{Submission}
 use Rattle.model.specs.Reasons.{number}
 use Rattle.rules.specs.Book.{Book}
-use Rattle.rules.specs.Receipts.{bump, receiptCapacity, keep, Submission}
+use Rattle.rules.specs.Receipts.{bump, receiptCapacity, keep}
 use Rattle.rules.specs.Protocol.{Call, Tick, UpdateState, EmergencyStop, PollEstop, RecoverLocal, Acquire, Renew, Cancel, Submit, Reply, Input, Calls, Replies, Reads, Item, ItemObserve, ItemExecute, ItemFallback, ItemRecord, Output, Started, StartRefused, Hands, Answers, Reminds, Refuses, Shows, NoRuntime, Start, Phase, bookIn, start, react}
 use Rattle.rules.specs.Lives.{Life}
 
@@ -263,7 +264,7 @@ renewedBy (some (EmergencyStop now)) t = t
 renewedBy (some (PollEstop raised now)) t = t
 renewedBy (some (RecoverLocal now)) t = t
 renewedBy (some (Acquire r now)) t = t
-renewedBy (some (Renew r)) t = until (r .now + r .duration) t
+renewedBy (some (Renew r)) t = until (r .now + r .«duration_ms») t
 renewedBy (some (Cancel owner id now)) t = t
 renewedBy (some (Submit s)) t = t
 

@@ -14,15 +14,15 @@ use Rattle.model.specs.declared.Observation.{Observation}
 use Rattle.model.specs.declared.Reason.{Reason}
 use Rattle.model.specs.declared.Reason.the-variants.{Startup}
 use Rattle.model.specs.declared.Receipt.{Receipt}
+use Rattle.model.specs.declared.Renewal.{Renewal}
 use Rattle.model.specs.declared.RuntimeState.{RuntimeState}
 use Rattle.model.specs.declared.RuntimeState.the-variants as State
 use Rattle.model.specs.declared.Snapshot.{Snapshot}
+use Rattle.model.specs.declared.Submission.{Submission}
 use Rattle.model.specs.Reasons.{invalidBootId, invalidConfig, invalidCapability, duplicateCapability, startupFailed, replyAwaited, noReplyAwaited, otherReplyAwaited}
 use Rattle.model.specs.Soundness.{sound, idTaken}
 use Rattle.rules.specs.Book.{Book, leaseAt}
-use Rattle.rules.specs.Receipts.{Submission}
 use Rattle.rules.specs.Interaction.{Answer, Returned, Interaction, Done, Observe, Execute, Fallback, Record}
-use Rattle.rules.specs.Admission.{Renewal}
 use Rattle.rules.specs.Rules.{usedAxes, meetsEstop, tick, updateState, emergencyStop, pollEstop, recoverLocal, acquire, renew, cancel, submit}
 
 -- what goes in and what comes out ------------------------------------------------------------------------------------

@@ -6,12 +6,12 @@ use mathlib.Core.Option.{Option, some, none}
 use lib.Dec.{ltb}
 use lib.IntN.{ℤ, pos}
 use lib.ListN.{length, drop}
-use Rattle.model.specs.declared.Action.{Action}
 use Rattle.model.specs.declared.Capability.{Capability}
 use Rattle.model.specs.declared.Decision.{Decision}
 use Rattle.model.specs.declared.Decision.the-variants.{Executed, Rejected, Fallback, Control, Failed}
 use Rattle.model.specs.declared.Reason.{Reason}
 use Rattle.model.specs.declared.Receipt.{Receipt}
+use Rattle.model.specs.declared.Submission.{Submission}
 use Rattle.model.specs.Lists.{any}
 use Rattle.rules.specs.Book.{Book, withReceipts, withNextReceipt}
 
@@ -126,13 +126,6 @@ event axis lease principal decision reason now b =
       «observed_valid» = false;
     }
 
--- a submission: the order, who brings it, when it was received, and the time of the call
-pub record Submission : Type 0 where
-  pub action : Action
-  pub principal : ℕ
-  pub receivedAt : ℕ
-  pub now : ℕ
-
 -- how far the driver came with an order
 pub record Progress : Type 0 where
   pub dispatched : Bool
@@ -173,7 +166,7 @@ orderReceipt s c decision reason original p b =
       decision = decision;
       reason = reason;
       epoch = b .epoch;
-      «received_at» = s .receivedAt;
+      «received_at» = s .«received_at»;
       «admitted_at» = s .now;
       «executed_at» = p .executedAt;
       requested = s .action .parameters;

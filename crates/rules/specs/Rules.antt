@@ -21,9 +21,11 @@ use Rattle.model.specs.declared.Observation.{Observation}
 use Rattle.model.specs.declared.Reason.{Reason}
 use Rattle.model.specs.declared.Reason.the-variants as Reason
 use Rattle.model.specs.declared.Receipt.{Receipt}
+use Rattle.model.specs.declared.Renewal.{Renewal}
 use Rattle.model.specs.declared.Replay.{Replay}
 use Rattle.model.specs.declared.RuntimeState.{RuntimeState}
 use Rattle.model.specs.declared.RuntimeState.the-variants as State
+use Rattle.model.specs.declared.Submission.{Submission}
 use Rattle.model.specs.declared.Verification.{Verification}
 use Rattle.model.specs.declared.Verification.the-variants.{Parameters, State as StateIs}
 use Rattle.model.specs.Lists.{any}
@@ -31,9 +33,9 @@ use Rattle.model.specs.Reasons.{number}
 use Rattle.model.specs.Soundness.{axisUsed}
 use Rattle.model.specs.Words.{shareNoBit, permits}
 use Rattle.rules.specs.Book.{Book, leaseAt, activeAt, withLeases, withActive, withReplay, withNextLease, withEpoch, withFlags, withStateAt, withLastTick, withState, withInvalidCount, withEstopSeen}
-use Rattle.rules.specs.Receipts.{top, bumpTo, bump, kept, numbered, event, Submission, Progress, notSent, orderReceipt}
+use Rattle.rules.specs.Receipts.{top, bumpTo, bump, kept, numbered, event, Progress, notSent, orderReceipt}
 use Rattle.rules.specs.Interaction.{Returned, Polled, Succeeded, Leased, Refused, Submitted, Interaction, Done, Observe, Execute, Fallback, Record}
-use Rattle.rules.specs.Admission.{firstFailing, isArmed, isEstopped, isStale, axes, isSome, holdsOf, acquireChecks, Renewal, renewChecks, heldAxis, heldLease, orderCapability, replayed, validUntil, Verdict, Admits, Rejects, validate}
+use Rattle.rules.specs.Admission.{firstFailing, isArmed, isEstopped, isStale, axes, isSome, holdsOf, acquireChecks, renewChecks, heldAxis, heldLease, orderCapability, replayed, validUntil, Verdict, Admits, Rejects, validate}
 
 -- 01: "An axis is used if a capability names it."
 unfoldable pub select : (ℕ → Bool) → List ℕ → List ℕ
@@ -257,7 +259,7 @@ extended r l =
       owner = l .owner;
       resource = l .resource;
       capabilities = l .capabilities;
-      «expires_at» = r .now + r .duration;
+      «expires_at» = r .now + r .«duration_ms»;
       limits = l .limits;
       «last_sequence» = l .«last_sequence»;
       «last_renewal» = r .renewal;
@@ -272,7 +274,7 @@ extend r none l b = Done b (Refused Reason.Authority)
 
 unfoldable pub renewed : Option Reason → Renewal → Book → Interaction
 renewed (some reason) r b = Done b (Refused reason)
-renewed none r b = extend r (heldAxis (r .owner) (r .lease) b) (heldLease (r .owner) (r .lease) b) b
+renewed none r b = extend r (heldAxis (r .owner) (r .«lease_id») b) (heldLease (r .owner) (r .«lease_id») b) b
 
 unfoldable pub renew : Renewal → Book → Interaction
 renew r b = tick (r .now) b (λ b′. renewed (firstFailing (renewChecks r b′)) r b′)

@@ -118,8 +118,8 @@ pub record Dispatched (s : Start) (l : Log) (b : Book) (c : ℕ) (ps : List ℤ)
       × (bitAnd (b .flags) (capability .«require_clear») ≡ 0)
   pub unmasked : bitAnd (b .flags) (s .config .«estop_mask») ≡ 0
   -- the time
-  pub received : carried .submission .receivedAt ≤ carried .submission .now
-  pub valid : carried .submission .now < carried .submission .receivedAt + carried .submission .action .«valid_for_ms»
+  pub received : carried .submission .«received_at» ≤ carried .submission .now
+  pub valid : carried .submission .now < carried .submission .«received_at» + carried .submission .action .«valid_for_ms»
   pub begun : carried .submission .action .«execute_after» ≤ carried .submission .now
   pub in-time : carried .submission .now < carried .submission .action .deadline
   pub unexpired : carried .submission .now < lease .«expires_at»

@@ -195,9 +195,9 @@ fn request(r: &LeaseRequest) -> String {
 fn renewal(r: &Renewal) -> String {
     record([
         ("owner", r.owner.to_string()),
-        ("lease", r.lease_id.to_string()),
+        ("lease_id", r.lease_id.to_string()),
         ("renewal", r.renewal.to_string()),
-        ("duration", r.duration_ms.to_string()),
+        ("duration_ms", r.duration_ms.to_string()),
         ("now", r.now.to_string()),
     ])
 }
@@ -222,7 +222,7 @@ fn order(o: &Order) -> String {
     record([
         ("action", action(&o.action)),
         ("principal", o.principal.to_string()),
-        ("receivedAt", o.received_at.to_string()),
+        ("received_at", o.received_at.to_string()),
         ("now", o.now.to_string()),
     ])
 }
