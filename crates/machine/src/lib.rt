@@ -17,13 +17,21 @@ use model::RuntimeState;
 use model::Submission;
 use replay::ReplayRing;
 ghost use mathlib.Core.Path.{_≡_};
-ghost use Prim.Native.Nat.{_<_};
-ghost use Rattle.rules.specs.Admission.{isArmed};
+ghost use mathlib.Core.Bool.{cond};
+ghost use mathlib.Core.List.{List, map};
+ghost use Prim.Native.Nat.{_≤_, _<_};
+ghost use lib.Dec.{eqb};
+ghost use Rattle.model.specs.Lists.{any};
+ghost use Rattle.model.specs.Reasons.{number};
+ghost use Rattle.model.specs.declared.Reason.the-variants.{Estop};
+ghost use Rattle.model.specs.declared.RuntimeState.the-variants.{SafeIdle, Armed};
+ghost use Rattle.rules.specs.Admission.{isArmed, isSome};
 ghost use Rattle.rules.specs.Interaction.{Done, Returned, Polled, Succeeded, Leased, Refused, Submitted};
 ghost use Rattle.rules.specs.Protocol.{proceed};
-ghost use Rattle.rules.specs.Receipts.{bump};
-ghost use Rattle.rules.specs.Rules.{tripped, recordReceipt};
-ghost use Rattle.machine.specs.Machine.{bookOf, afterRecord, Sound, Gives};
+ghost use Rattle.rules.specs.Receipts.{bump, event as eventReceipt, isFallback};
+ghost use Rattle.rules.specs.Rules.{leaseId, leaseOwner, refreshed as refreshedState, tripped as trippedState, recordReceipt, fallback as fallbackRule, trip as tripRule};
+ghost use Rattle.machine.specs.Axes.{firstUsed};
+ghost use Rattle.machine.specs.Machine.{leaseIn, bookOf, capabilitiesOf, afterTrip, afterFallback, afterRecord, Sound, Gives};
 
 // The call in hand.
 pub enum CallKind {
@@ -204,6 +212,53 @@ pub fn is_armed(state: RuntimeState) -> bool
     }
 }
 
+// What a fallback's receipt says of the lease that the axis had.
+fn id_of(slot: LeaseSlot) -> u64
+    ensures { λ r. ⌜ r ≡ leaseId (leaseIn slot) ⌝ }
+{
+    let presence = slot.presence;
+    let lease = slot.lease;
+    match presence {
+        Presence::Absent => 0,
+        Presence::Present => lease.id,
+    }
+}
+
+fn owner_of(slot: LeaseSlot) -> u64
+    ensures { λ r. ⌜ r ≡ leaseOwner (leaseIn slot) ⌝ }
+{
+    let presence = slot.presence;
+    let lease = slot.lease;
+    match presence {
+        Presence::Absent => 0,
+        Presence::Present => lease.owner,
+    }
+}
+
+pub fn is_leased(slot: LeaseSlot) -> bool
+    ensures { λ r. ⌜ r ≡ isSome (leaseIn slot) ⌝ }
+{
+    let presence = slot.presence;
+    match presence {
+        Presence::Absent => false,
+        Presence::Present => true,
+    }
+}
+
+fn any_lease(leases: [LeaseSlot; 8]) -> bool
+    ensures { λ r. ⌜ r ≡ any isSome (map leaseIn leases) ⌝ }
+{
+    let mut i = 0;
+    while i < 8 {
+        let slot = leases[i];
+        if is_leased(slot) {
+            return true;
+        }
+        i += 1;
+    }
+    false
+}
+
 // Answers: the call is over ----------------------------------------------------------------------------------------
 
 pub fn returned(core: Core) -> Outcome
@@ -286,7 +341,7 @@ pub fn submitted(core: Core, receipt: Receipt) -> Outcome
     }
 }
 
-// record, event, refresh_state -------------------------------------------------------------------------------------
+// record, event, refresh_state, trip -------------------------------------------------------------------------------------
 
 // The receipt takes the next number and is handed out.
 pub fn record(core: Core, receipt: Receipt, after: AfterRecord) -> Outcome
@@ -308,4 +363,185 @@ pub fn record(core: Core, receipt: Receipt, after: AfterRecord) -> Outcome
         kind: Kind::Item,
         core: next,
     }
+}
+
+fn is_fallback(decision: Decision) -> bool
+    ensures { λ r. ⌜ r ≡ isFallback decision ⌝ }
+{
+    match decision {
+        Decision::Executed => false,
+        Decision::Rejected => false,
+        Decision::Fallback => true,
+        Decision::Control => false,
+        Decision::Failed => false,
+    }
+}
+
+// The receipt of a fallback, a grant or a renewal.
+fn event_receipt(
+    core: Core,
+    resource: u8,
+    lease_id: u64,
+    principal: u64,
+    decision: Decision,
+    reason: Reason,
+    now: u64,
+) -> Receipt
+    ensures { λ r. ⌜ ((kept : List Receipt) → r ≡ eventReceipt resource «lease_id» principal decision reason now (bookOf core kept)) ⌝ }
+{
+    Receipt {
+        boot_id: core.boot_id,
+        principal: principal,
+        safety_flags: core.flags,
+        receipt_id: 0,
+        action_id: 0,
+        sequence: 0,
+        capability: 0,
+        resource: resource,
+        lease_id: lease_id,
+        decision: decision,
+        reason: reason,
+        epoch: core.epoch,
+        received_at: now,
+        admitted_at: now,
+        executed_at: now,
+        requested: [0; 2],
+        observed: [0; 2],
+        pre_state: core.flags,
+        post_state: core.flags,
+        original_receipt: 0,
+        dispatched: is_fallback(decision),
+        observed_valid: false,
+    }
+}
+
+// Hands that receipt out.
+pub fn event(
+    core: Core,
+    resource: u8,
+    lease_id: u64,
+    principal: u64,
+    decision: Decision,
+    reason: Reason,
+    now: u64,
+    after: AfterRecord,
+) -> Outcome
+    requires { ⌜ Sound core ⌝ }
+    ensures { λ r. ⌜ Gives r (λ kept. proceed (recordReceipt (eventReceipt resource «lease_id» principal decision reason now (bookOf core kept)) (bookOf core kept) (afterRecord after core))) ⌝ }
+{
+    let receipt = event_receipt(core, resource, lease_id, principal, decision, reason, now);
+    record(core, receipt, after)
+}
+
+// The state with the leases as they are: Armed if any stands, else SafeIdle, unless Faulted or Estopped.
+pub fn refreshed(leases: [LeaseSlot; 8], state: RuntimeState) -> RuntimeState
+    ensures { λ r. ⌜ r ≡ refreshedState (any isSome (map leaseIn leases)) state ⌝ }
+{
+    match state {
+        RuntimeState::SafeIdle => armed_if(any_lease(leases)),
+        RuntimeState::Armed => armed_if(any_lease(leases)),
+        RuntimeState::Faulted => RuntimeState::Faulted,
+        RuntimeState::Estopped => RuntimeState::Estopped,
+    }
+}
+
+fn armed_if(leased: bool) -> RuntimeState
+    ensures { λ r. ⌜ r ≡ cond leased Armed SafeIdle ⌝ }
+{
+    if leased {
+        return RuntimeState::Armed;
+    }
+    RuntimeState::SafeIdle
+}
+
+fn is_estop(reason: Reason) -> bool
+    ensures { λ r. ⌜ r ≡ eqb (number reason) (number Estop) ⌝ }
+{
+    reason.number() == 11
+}
+
+// The state of a trip: Estopped if the reason is Estop or it already was, else Faulted.
+fn tripped(reason: Reason, state: RuntimeState) -> RuntimeState
+    ensures { λ r. ⌜ r ≡ trippedState reason state ⌝ }
+{
+    if is_estop(reason) {
+        return RuntimeState::Estopped;
+    }
+    match state {
+        RuntimeState::SafeIdle => RuntimeState::Faulted,
+        RuntimeState::Armed => RuntimeState::Faulted,
+        RuntimeState::Faulted => RuntimeState::Faulted,
+        RuntimeState::Estopped => RuntimeState::Estopped,
+    }
+}
+
+// The first used axis from one on, or 8.
+pub fn first_used(resources: [bool; 8], from: u8) -> u8
+    requires { ⌜ from ≤ 8 ⌝ }
+    ensures { λ r. ⌜ r ≡ firstUsed resources from ⌝ }
+{
+    let mut i = from;
+    while i < 8 {
+        if resources[i as usize] {
+            return i;
+        }
+        i += 1;
+    }
+    8
+}
+
+// Clears the axis, bumps the epoch and hands the fallback out.
+pub fn fallback(core: Core, falling: Falling) -> Outcome
+    requires { ⌜ Sound core × ((falling .axis < 8) × (falling .at < 8)) ⌝ }
+    ensures { λ r. ⌜ Gives r (λ kept. proceed (fallbackRule (falling .axis) (falling .reason) (falling .time) (bookOf core kept) (afterFallback falling (capabilitiesOf core) (core .pending) (core .submitted)))) ⌝ }
+{
+    let mut next = core;
+    let i = falling.axis as usize;
+    let slot = next.leases[i];
+    let e = next.epoch;
+    next.active[i] = ActiveSlot::blank();
+    next.leases[i] = LeaseSlot::blank();
+    next.epoch = bump_counter(e);
+    next.falling = falling;
+    let revoked = Revoked {
+        lease_id: id_of(slot),
+        owner: owner_of(slot),
+        ok: false,
+    };
+    next.revoked = revoked;
+    let waiting = Waiting {
+        awaited: Awaited::Fallback,
+        after_record: AfterRecord::Fallback,
+    };
+    next.waiting = waiting;
+    Outcome {
+        kind: Kind::Item,
+        core: next,
+    }
+}
+
+// The state first, then the first used axis; a sound core has one.
+pub fn trip(core: Core, reason: Reason, time: u64, after_trip: AfterTrip, at: u8) -> Outcome
+    requires { ⌜ Sound core × (at < 8) ⌝ }
+    ensures { λ r. ⌜ Gives r (λ kept. proceed (tripRule reason time (bookOf core kept) (afterTrip «after_trip» at time (core .pending) (core .submitted)))) ⌝ }
+{
+    let mut next = core;
+    let mode = next.mode;
+    let state = mode.state;
+    let resources = next.resources;
+    let tripping = Mode {
+        state: tripped(reason, state),
+    };
+    next.mode = tripping;
+    let axis = first_used(resources, 0);
+    let falling = Falling {
+        axis: axis,
+        reason: reason,
+        time: time,
+        after: AfterFallback::Trip,
+        good: true,
+        after_trip: after_trip,
+        at: at,
+    };
+    fallback(next, falling)
 }
