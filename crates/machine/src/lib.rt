@@ -25,11 +25,11 @@ ghost use Rattle.model.specs.Lists.{any};
 ghost use Rattle.model.specs.Reasons.{number};
 ghost use Rattle.model.specs.declared.Reason.the-variants.{Estop};
 ghost use Rattle.model.specs.declared.RuntimeState.the-variants.{SafeIdle, Armed};
-ghost use Rattle.rules.specs.Admission.{isArmed, isSome};
+ghost use Rattle.rules.specs.Admission.{isArmed, isStale, isSome};
 ghost use Rattle.rules.specs.Interaction.{Done, Returned, Polled, Succeeded, Leased, Refused, Submitted};
 ghost use Rattle.rules.specs.Protocol.{proceed};
 ghost use Rattle.rules.specs.Receipts.{bump, event as eventReceipt, isFallback};
-ghost use Rattle.rules.specs.Rules.{leaseId, leaseOwner, refreshed as refreshedState, tripped as trippedState, recordReceipt, fallback as fallbackRule, trip as tripRule};
+ghost use Rattle.rules.specs.Rules.{exhausted, leaseId, leaseOwner, refreshed as refreshedState, tripped as trippedState, recordReceipt, fallback as fallbackRule, trip as tripRule};
 ghost use Rattle.machine.specs.Axes.{firstUsed};
 ghost use Rattle.machine.specs.Machine.{leaseIn, bookOf, capabilitiesOf, afterTrip, afterFallback, afterRecord, Sound, Gives};
 
@@ -210,6 +210,26 @@ pub fn is_armed(state: RuntimeState) -> bool
         RuntimeState::Faulted => false,
         RuntimeState::Estopped => false,
     }
+}
+
+// The state's age, 0 where the stamp is later, is at or over the limit.
+pub fn is_stale(core: Core, now: u64) -> bool
+    ensures { λ r. ⌜ ((kept : List Receipt) → r ≡ isStale now (bookOf core kept)) ⌝ }
+{
+    let config = core.config;
+    let ttl = config.state_ttl_ms as u64;
+    if now < core.state_at {
+        return ttl == 0;
+    }
+    now - core.state_at >= ttl
+}
+
+// A counter is at the top.
+pub fn is_exhausted(core: Core) -> bool
+    ensures { λ r. ⌜ ((kept : List Receipt) → r ≡ exhausted (bookOf core kept)) ⌝ }
+{
+    let top = 0xffff_ffff_ffff_ffff;
+    core.epoch == top || (core.next_receipt == top || core.next_lease == top)
 }
 
 // What a fallback's receipt says of the lease that the axis had.
