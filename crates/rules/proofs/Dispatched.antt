@@ -19,20 +19,20 @@ use Rattle.model.specs.declared.Reason.{Reason}
 use Rattle.model.specs.declared.Renewal.{Renewal}
 use Rattle.model.specs.declared.Submission.{Submission}
 use Rattle.model.specs.Words.{shareNoBit}
-use Rattle.rules.specs.Book.{Book, leaseAt, withLeases, withActive, withReplay, withReceipts, withNextReceipt, withNextLease, withEpoch, withFlags, withStateAt, withLastTick, withState, withInvalidCount, withEstopSeen}
-use Rattle.rules.specs.Receipts.{kept, Progress}
+use Rattle.rules.specs.Book.{Book, leaseAt, withLeases, withReplay}
+use Rattle.rules.specs.Receipts.{Progress}
 use Rattle.rules.specs.Interaction.{Answer, Refused, Succeeded, Done, Observe}
 use Rattle.rules.specs.Admission.{Check, firstFailing, ready, withId, orderCapability, leaseFor, orderLease, admission, Admits, verdict, validate}
 use Rattle.rules.specs.Admissible.{Inside, Admissible}
-use Rattle.rules.specs.Rules.{bumpEpoch, refreshState, cleared, trip, meetsEstop, updateState, recovered, recoverLocal, granted, leased, grant, acquire, extend, renewed, renew, canceled, cancel, withSequence, consumed, fail, streamEnd, complete, verified, verify, dispatch, admit, submit}
-use Rattle.rules.specs.Protocol.{Call, Tick, UpdateState, EmergencyStop, PollEstop, RecoverLocal, Acquire, Renew, Cancel, Submit, Observed, Executed, Item, ItemObserve, ItemExecute, ItemFallback, ItemRecord, Hands, Start, Phase, Starting, Gone, Idle, Waiting, waitBook, bookIn, opening, begin, react}
-use Rattle.rules.specs.Log.{History, phaseAt, outputAt, Took, Replied, Handed, Log, handed, arrived, extended, logOf, callOf, Tenancy, live}
+use Rattle.rules.specs.Rules.{refreshState, trip, meetsEstop, updateState, recovered, recoverLocal, leased, grant, acquire, extend, renewed, renew, canceled, cancel, withSequence, consumed, fail, streamEnd, complete, verified, verify, dispatch, admit, submit}
+use Rattle.rules.specs.Protocol.{Call, Tick, UpdateState, EmergencyStop, PollEstop, RecoverLocal, Acquire, Renew, Cancel, Submit, Observed, Executed, ItemObserve, ItemExecute, ItemFallback, ItemRecord, Hands, Start, Phase, Starting, Gone, Idle, Waiting, waitBook, bookIn, opening, begin}
+use Rattle.rules.specs.Log.{History, phaseAt, outputAt, Took, Replied, Handed, Ended, Log, logOf, callOf, Tenancy, live}
 use Rattle.rules.specs.Claim.{Carried, tenancyIn}
 use Rattle.rules.specs.StopFacts.{Unready, Dispatched}
 use Rattle.rules.proofs.Admission.{admitted-exactly}
 use Rattle.rules.proofs.Safe.{Safe, Plain, SafePhase, at-wait, always}
 use Rattle.rules.proofs.Keeps.{at-set}
-use Rattle.rules.proofs.Once.{holds, only-submissions, live-lease, book-facts}
+use Rattle.rules.proofs.Once.{holds, newest, only-submissions, live-lease, book-facts}
 use Rattle.rules.proofs.StateFacts.{state-facts}
 use Rattle.rules.proofs.Walks.{Kept, walk-record, walk-fallback, walk-trip, walk-tick, walk-sense, walk-stop, walk-poll, walk-recover, walk-reject}
 use Rattle.rules.proofs.Stopped.{fails-unready, Quiet}
@@ -55,6 +55,7 @@ AtExecute (Handed (ItemObserve axis) ∷ l) b = Unit
 AtExecute (Handed (ItemExecute c ps) ∷ l) b = (o : Submission) × (callOf l ≡ some (Submit o)) × Sent o b
 AtExecute (Handed (ItemFallback axis r) ∷ l) b = Unit
 AtExecute (Handed (ItemRecord r) ∷ l) b = Unit
+AtExecute (Ended a ∷ l) b = Unit
 
 quiet-at : (l : Log) (b : Book) → Quiet l → AtExecute l b
 quiet-at [] b h = tt
@@ -64,6 +65,7 @@ quiet-at (Handed (ItemObserve axis) ∷ l) b h = tt
 quiet-at (Handed (ItemExecute c ps) ∷ l) b h = absurd h
 quiet-at (Handed (ItemFallback axis r) ∷ l) b h = tt
 quiet-at (Handed (ItemRecord r) ∷ l) b h = tt
+quiet-at (Ended a ∷ l) b h = tt
 
 plain-quiet : (l : Log) → Plain l → Quiet l
 plain-quiet [] h = tt
@@ -73,10 +75,7 @@ plain-quiet (Handed (ItemObserve axis) ∷ l) h = h
 plain-quiet (Handed (ItemExecute c ps) ∷ l) h = h
 plain-quiet (Handed (ItemFallback axis r) ∷ l) h = tt
 plain-quiet (Handed (ItemRecord r) ∷ l) h = tt
-
--- and the configuration is the start's
-abbrev AtBook : Start → Log → Book → Type 0
-AtBook s l b = (b .config ≡ s .config) × AtExecute l b
+plain-quiet (Ended a ∷ l) h = tt
 
 -- the readiness checks hold
 is-ready : (now : ℕ) (b : Book) (cs : List Check) → firstFailing (ready now b ++ cs) ≡ none → ¬ Unready (b .state)
@@ -84,28 +83,23 @@ is-ready now b cs e u = let f = fails-unready now b cs u in Option·some-ne-none
 
 -- ---- the calls
 
-module _ (s : Start) (c : Call) where
-  abbrev W : Log → Book → Type 0
-  W l b = AtBook s l b
+-- a call ends anyhow
+abbrev Ends : Log → Book → Answer → Type 0
+Ends l b a = Unit
 
-  abbrev D : Log → Book → Answer → Type 0
-  D l b a = AtBook s l b
-
+module _ (c : Call) where
   abbrev Within : Log → Book → Type 0
-  Within l b = (Quiet l × (callOf l ≡ some c)) × (b .config ≡ s .config)
+  Within l b = Quiet l × (callOf l ≡ some c)
 
-  ends : (l : Log) (b : Book) → Within l b → AtBook s l b
-  ends l b h = (h .1, quiet-at l b (h .0 .0))
-
-  within : Kept W D Within
-  unfolding callOf cleared bumpEpoch withEpoch withLeases withActive kept withNextReceipt withReceipts refreshState withState withLastTick withStateAt withInvalidCount withFlags withEstopSeen
+  within : Kept AtExecute Ends Within
+  unfolding callOf
   within =
       record {
-        waits = ends;
-        ends = λ l b a o h. ends l b h;
-        replied = λ r l b h. ((tt, h .0 .1), h .1);
-        falls = λ axis reason l b h. ((tt, h .0 .1), h .1);
-        records = λ r l b h. ((tt, h .0 .1), h .1);
+        waits = λ l b h. quiet-at l b (h .0);
+        ends = λ l b a o h. tt;
+        replied = λ r l b h. (tt, h .1);
+        falls = λ axis reason l b h. (tt, h .1);
+        records = λ r l b h. (tt, h .1);
         trips = λ reason l b h. h;
         refreshes = λ l b h. h;
         ticks = λ now l b h. h;
@@ -116,149 +110,133 @@ module _ (s : Start) (c : Call) where
         counts = λ x l b h. h;
       }
 
-  sent-recovered : (good : Bool) (l : Log) (b : Book) → Within l b → Safe W D l (recovered good b)
-  unfolding recovered withState withInvalidCount
-  sent-recovered true l b h = (h .1, quiet-at l _ (h .0 .0))
-  sent-recovered false l b h = (h .1, quiet-at l _ (h .0 .0))
+  sent-recovered : (good : Bool) (l : Log) (b : Book) → Within l b → Safe AtExecute Ends l (recovered good b)
+  unfolding recovered
+  sent-recovered true l b h = tt
+  sent-recovered false l b h = tt
 
-  sent-leased : (axis : ℕ) (x : Lease) (reason : Reason) (now : ℕ) (l : Log) (b : Book) → Within l b → Safe W D l (leased axis x reason now b)
+  sent-leased : (axis : ℕ) (x : Lease) (reason : Reason) (now : ℕ) (l : Log) (b : Book) → Within l b → Safe AtExecute Ends l (leased axis x reason now b)
   unfolding leased
-  sent-leased axis x reason now l b h = walk-record W D Within within _ l b _ h (λ r l′ b′ h′. ends l′ b′ h′)
+  sent-leased axis x reason now l b h = walk-record AtExecute Ends Within within _ l b _ h (λ r l′ b′ h′. tt)
 
-  sent-grant : (o : Option Reason) (r : LeaseRequest) (now : ℕ) (l : Log) (b : Book) → Within l b → Safe W D l (grant o r now b)
-  unfolding grant granted refreshState withState bumpEpoch withEpoch withLeases withNextLease
-  sent-grant (some reason) r now l b h = ends l b h
+  sent-grant : (o : Option Reason) (r : LeaseRequest) (now : ℕ) (l : Log) (b : Book) → Within l b → Safe AtExecute Ends l (grant o r now b)
+  unfolding grant
+  sent-grant (some reason) r now l b h = tt
   sent-grant none r now l b h = sent-leased (r .resource) _ Reason.LeaseGranted now l _ h
 
-  sent-extend : (axis : Option ℕ) (x : Option Lease) (r : Renewal) (l : Log) (b : Book) → Within l b → Safe W D l (extend r axis x b)
-  unfolding extend withLeases
-  sent-extend none x r l b h = ends l b h
-  sent-extend (some axis) none r l b h = ends l b h
+  sent-extend : (axis : Option ℕ) (x : Option Lease) (r : Renewal) (l : Log) (b : Book) → Within l b → Safe AtExecute Ends l (extend r axis x b)
+  unfolding extend
+  sent-extend none x r l b h = tt
+  sent-extend (some axis) none r l b h = tt
   sent-extend (some axis) (some x) r l b h = sent-leased axis _ Reason.LeaseRenewed (r .now) l _ h
 
-  sent-renewed : (o : Option Reason) (r : Renewal) (l : Log) (b : Book) → Within l b → Safe W D l (renewed o r b)
+  sent-renewed : (o : Option Reason) (r : Renewal) (l : Log) (b : Book) → Within l b → Safe AtExecute Ends l (renewed o r b)
   unfolding renewed
-  sent-renewed (some reason) r l b h = ends l b h
+  sent-renewed (some reason) r l b h = tt
   sent-renewed none r l b h = sent-extend _ _ r l b h
 
-  sent-canceled : (axis : Option ℕ) (now : ℕ) (l : Log) (b : Book) → Within l b → Safe W D l (canceled axis now b)
+  sent-canceled : (axis : Option ℕ) (now : ℕ) (l : Log) (b : Book) → Within l b → Safe AtExecute Ends l (canceled axis now b)
   unfolding canceled
-  sent-canceled none now l b h = ends l b h
-  sent-canceled (some axis) now l b h = walk-fallback W D Within within axis Reason.Canceled now l b _ h after
+  sent-canceled none now l b h = tt
+  sent-canceled (some axis) now l b h = walk-fallback AtExecute Ends Within within axis Reason.Canceled now l b _ h after
     where
       after : (ok : Bool) (l′ : Log) (b′ : Book) → Within l′ b′
-          → Safe W D l′ (cond ok (Done (refreshState b′) Succeeded) (trip Reason.Driver now b′ (λ b″. Done b″ (Refused Reason.Driver))))
-      after true l′ b′ h′ = ends l′ (refreshState b′) (within .refreshes l′ b′ h′)
-      after false l′ b′ h′ = walk-trip W D Within within Reason.Driver now l′ b′ _ h′ (λ l″ b″ h″. ends l″ b″ h″)
+          → Safe AtExecute Ends l′ (cond ok (Done (refreshState b′) Succeeded) (trip Reason.Driver now b′ (λ b″. Done b″ (Refused Reason.Driver))))
+      after true l′ b′ h′ = tt
+      after false l′ b′ h′ = walk-trip AtExecute Ends Within within Reason.Driver now l′ b′ _ h′ (λ l″ b″ h″. tt)
 
   module _ (o : Submission) where
-    sent-fail : (k : Capability) (reason : Reason) (p : Progress) (l : Log) (b : Book) → Within l b → Safe W D l (fail k reason p o b)
+    sent-fail : (k : Capability) (reason : Reason) (p : Progress) (l : Log) (b : Book) → Within l b → Safe AtExecute Ends l (fail k reason p o b)
     unfolding fail
     sent-fail k reason p l b h =
-        walk-record W D Within within _ l b _ h
-        (λ r l′ b′ h′. walk-trip W D Within within reason (o .now) l′ b′ _ h′ (λ l″ b″ h″. ends l″ b″ h″))
+        walk-record AtExecute Ends Within within _ l b _ h
+        (λ r l′ b′ h′. walk-trip AtExecute Ends Within within reason (o .now) l′ b′ _ h′ (λ l″ b″ h″. tt))
 
     sent-verify : (k : Capability) (end before : ℕ) (l : Log) (b : Book) → Within l b → (seen : Option Observation)
-        → Safe W D l (verify k end before o b seen)
-    unfolding verify complete withActive withInvalidCount
+        → Safe AtExecute Ends l (verify k end before o b seen)
+    unfolding verify complete
     sent-verify k end before l b h none = sent-fail k Reason.Driver _ l b h
     sent-verify k end before l b h (some seen) = go (verified (k .verification) (o .action .parameters) seen) _
       where
-        go : (t : Bool) (p : Progress) → Safe W D l (cond t (complete k end p o b) (fail k Reason.Verification p o b))
-        go true p = walk-record W D Within within _ l _ _ h (λ r l′ b′ h′. ends l′ b′ h′)
+        go : (t : Bool) (p : Progress) → Safe AtExecute Ends l (cond t (complete k end p o b) (fail k Reason.Verification p o b))
+        go true p = walk-record AtExecute Ends Within within _ l _ _ h (λ r l′ b′ h′. tt)
         go false p = sent-fail k Reason.Verification p l b h
 
-    sent-executing : (k : Capability) (end before : ℕ) (p : Progress) (l : Log) (b : Book) → callOf l ≡ some c → b .config ≡ s .config
-        → (ok : Bool) → Safe W D (Replied (Executed ok) ∷ l)
+    sent-executing : (k : Capability) (end before : ℕ) (p : Progress) (l : Log) (b : Book) → callOf l ≡ some c → (ok : Bool)
+        → Safe AtExecute Ends (Replied (Executed ok) ∷ l)
         (cond ok (Observe (k .resource) b (verify k end before o b)) (fail k Reason.Driver p o b))
     unfolding callOf
-    sent-executing k end before p l b call h true = ((h, tt), λ seen. sent-verify k end before _ b ((tt, call), h) seen)
-    sent-executing k end before p l b call h false = sent-fail k Reason.Driver p _ b ((tt, call), h)
+    sent-executing k end before p l b call true = (tt, λ seen. sent-verify k end before _ b (tt, call) seen)
+    sent-executing k end before p l b call false = sent-fail k Reason.Driver p _ b (tt, call)
 
     module _ (this : c ≡ Submit o) where
-      sent-dispatch : (k : Capability) (end : ℕ) (l : Log) (b : Book) → callOf l ≡ some c → b .config ≡ s .config → Sent o b
-          → (seen : Option Observation) → Safe W D (Replied (Observed seen) ∷ l) (dispatch k end o b seen)
+      sent-dispatch : (k : Capability) (end : ℕ) (l : Log) (b : Book) → callOf l ≡ some c → Sent o b
+          → (seen : Option Observation) → Safe AtExecute Ends (Replied (Observed seen) ∷ l) (dispatch k end o b seen)
       unfolding dispatch callOf
-      sent-dispatch k end l b call h sent none = sent-fail k Reason.Driver _ _ b ((tt, call), h)
-      sent-dispatch k end l b call h sent (some seen) =
-          ((h, (o, call ∙ ap some this, sent)), sent-executing k end (seen .state) _ _ b call h)
+      sent-dispatch k end l b call sent none = sent-fail k Reason.Driver _ _ b (tt, call)
+      sent-dispatch k end l b call sent (some seen) = ((o, call ∙ ap some this, sent), sent-executing k end (seen .state) _ _ b call)
 
       -- every check holds
       sent-admitted : (l : Log) (b : Book) → Within l b → (a : Admissible o b) → ¬ Unready (b .state)
-          → Safe W D l (admit (Admits (a .capability) (a .lease)) o b)
-      unfolding admit callOf consumed withReplay withLeases
+          → Safe AtExecute Ends l (admit (Admits (a .capability) (a .lease)) o b)
+      unfolding admit callOf
       sent-admitted l b h a ok =
           let b₁ = consumed (a .capability) (a .lease) o b in
           let sent : Sent o b₁ = record { book = b; ready = ok; admissible = a; shown = refl } in
-          ((h .1, tt), λ seen. sent-dispatch (a .capability) (streamEnd (a .lease) o) _ b₁ (h .0 .1) (h .1) sent seen)
+          (tt, λ seen. sent-dispatch (a .capability) (streamEnd (a .lease) o) _ b₁ (h .1) sent seen)
 
       sent-admit : (f : Option Reason) (l : Log) (b : Book) → Within l b → firstFailing (admission o b) ≡ f
-          → Safe W D l (admit (verdict f (orderCapability o b) (orderLease o b)) o b)
+          → Safe AtExecute Ends l (admit (verdict f (orderCapability o b) (orderLease o b)) o b)
       unfolding admit verdict admission orderLease leaseFor
-      sent-admit (some reason) l b h e = walk-reject W D Within within reason o l b h
+      sent-admit (some reason) l b h e = walk-reject AtExecute Ends Within within reason o l b h
       sent-admit none l b h e =
           let a = admitted-exactly o b .0 e in
           rw (a .known, a .leased) (sent-admitted l b h a (is-ready (o .now) b _ e))
 
 -- ---- every history
 
-module _ (s : Start) where
-  sent-call : (l : Log) (c : Call) (b : Book) → AtBook s l b → Safe (AtBook s) (λ l b a. AtBook s l b) (Took c ∷ l) (begin c b)
-  unfolding begin updateState recoverLocal acquire renew cancel submit validate callOf
-  sent-call l (Tick now) b h = walk-tick _ _ _ (within s (Tick now)) now _ b _ ((tt, refl), h .0) (ends s (Tick now))
-  sent-call l (UpdateState x now) b h =
-      let t = within s (UpdateState x now) in
-      walk-tick _ _ _ t now _ b _ ((tt, refl), h .0) (walk-sense _ _ _ t x now)
-  sent-call l (EmergencyStop now) b h =
-      walk-stop _ _ _ (within s (EmergencyStop now)) now _ b _ ((tt, refl), h .0) (ends s (EmergencyStop now))
-  sent-call l (PollEstop raised now) b h = walk-poll _ _ _ (within s (PollEstop raised now)) raised now _ b ((tt, refl), h .0)
-  sent-call l (RecoverLocal now) b h =
-      let t = within s (RecoverLocal now) in
-      walk-tick _ _ _ t now _ b _ ((tt, refl), h .0) (walk-recover _ _ _ t (sent-recovered s (RecoverLocal now)) now)
-  sent-call l (Acquire r now) b h =
-      walk-tick _ _ _ (within s (Acquire r now)) now _ b _ ((tt, refl), h .0) (λ l′ b′. sent-grant s (Acquire r now) _ r now l′ b′)
-  sent-call l (Renew r) b h =
-      walk-tick _ _ _ (within s (Renew r)) (r .now) _ b _ ((tt, refl), h .0) (λ l′ b′. sent-renewed s (Renew r) _ r l′ b′)
-  sent-call l (Cancel owner id now) b h =
-      walk-tick _ _ _ (within s (Cancel owner id now)) now _ b _ ((tt, refl), h .0)
-      (λ l′ b′. sent-canceled s (Cancel owner id now) _ now l′ b′)
-  sent-call l (Submit o) b h =
-      walk-tick _ _ _ (within s (Submit o)) (o .now) _ b _ ((tt, refl), h .0) (λ l′ b′ h′. sent-admit s (Submit o) o refl _ l′ b′ h′ refl)
+sent-call : (l : Log) (c : Call) (b : Book) → AtExecute l b → Safe AtExecute Ends (Took c ∷ l) (begin c b)
+unfolding begin updateState recoverLocal acquire renew cancel submit validate callOf
+sent-call l (Tick now) b h = walk-tick _ _ _ (within (Tick now)) now _ b _ (tt, refl) (λ l′ b′ h′. tt)
+sent-call l (UpdateState x now) b h =
+    let t = within (UpdateState x now) in
+    walk-tick _ _ _ t now _ b _ (tt, refl) (walk-sense _ _ _ t x now)
+sent-call l (EmergencyStop now) b h = walk-stop _ _ _ (within (EmergencyStop now)) now _ b _ (tt, refl) (λ l′ b′ h′. tt)
+sent-call l (PollEstop raised now) b h = walk-poll _ _ _ (within (PollEstop raised now)) raised now _ b (tt, refl)
+sent-call l (RecoverLocal now) b h =
+    let t = within (RecoverLocal now) in
+    walk-tick _ _ _ t now _ b _ (tt, refl) (walk-recover _ _ _ t (sent-recovered (RecoverLocal now)) now)
+sent-call l (Acquire r now) b h =
+    walk-tick _ _ _ (within (Acquire r now)) now _ b _ (tt, refl) (λ l′ b′. sent-grant (Acquire r now) _ r now l′ b′)
+sent-call l (Renew r) b h = walk-tick _ _ _ (within (Renew r)) (r .now) _ b _ (tt, refl) (λ l′ b′. sent-renewed (Renew r) _ r l′ b′)
+sent-call l (Cancel owner id now) b h =
+    walk-tick _ _ _ (within (Cancel owner id now)) now _ b _ (tt, refl) (λ l′ b′. sent-canceled (Cancel owner id now) _ now l′ b′)
+sent-call l (Submit o) b h =
+    walk-tick _ _ _ (within (Submit o)) (o .now) _ b _ (tt, refl) (λ l′ b′ h′. sent-admit (Submit o) o refl _ l′ b′ h′ refl)
 
-  abbrev Holds : Log → Phase → Type 0
-  Holds l p = SafePhase s (AtBook s) (AtBook s) (λ l b a. AtBook s l b) l p
+abbrev Holds : Start → Log → Phase → Type 0
+Holds s l p = SafePhase s AtExecute AtExecute Ends l p
 
-  always-sent : (h : History) → Holds (logOf s h) (phaseAt s h)
-  unfolding opening
-  always-sent h =
-      always s (AtBook s) (AtBook s) (λ l b a. AtBook s l b) (λ l b a k. k) (λ l plain e. (refl, quiet-at l (opening s) (plain-quiet l plain)))
-      sent-call h
+always-sent : (s : Start) (h : History) → Holds s (logOf s h) (phaseAt s h)
+always-sent s h =
+    always s AtExecute AtExecute Ends (λ l b a k. tt) (λ l plain e. quiet-at l (opening s) (plain-quiet l plain)) sent-call h
 
-  -- nothing but the start was logged, or it holds of a book that can be read
-  abbrev Readable : Log → Phase → Type 0
-  Readable l p = Plain l ⊎ ((b : Book) × (bookIn p ≡ some b) × AtBook s l b)
+-- nothing but the start was logged, or it holds of a book that can be read
+abbrev Readable : Log → Phase → Type 0
+Readable l p = Plain l ⊎ ((b : Book) × (bookIn p ≡ some b) × AtExecute l b)
 
-  readable : (l : Log) (p : Phase) → Holds l p → Readable l p
-  unfolding bookIn
-  readable l (Starting own axis rest good) h = inl (h .1 .0)
-  readable l Gone h = inl h
-  readable l (Idle b) h = inr (b, refl, h)
-  readable l (Waiting w) h = inr (waitBook w, refl, at-wait (AtBook s) (λ l b a. AtBook s l b) l w h)
-
--- the newest event is the item that the newest output hands out
-newest : (s : Start) (h : History) (item : Item) → outputAt s h ≡ Hands item → (l : Log) × (logOf s h ≡ Handed item ∷ l)
-unfolding outputAt logOf extended handed
-newest s [] item e = ([], ap handed e)
-newest s (i ∷ past) item e =
-    let l = arrived i (react (phaseAt s past) i .output) ++ logOf s past in
-    (l, ap (λ o. handed o ++ l) e)
+readable : (s : Start) (l : Log) (p : Phase) → Holds s l p → Readable l p
+unfolding bookIn
+readable s l (Starting own axis rest good) h = inl (h .1 .0)
+readable s l Gone h = inl h
+readable s l (Idle b) h = inr (b, refl, h)
+readable s l (Waiting w) h = inr (waitBook w, refl, at-wait AtExecute Ends l w h)
 
 -- ---- an execute item
 
 record Executing (s : Start) (h : History) : Type 0 where
   book : Book
   shown : bookIn (phaseAt s h) ≡ some book
-  config : book .config ≡ s .config
   order : Submission
   call : callOf (logOf s h) ≡ some (Submit order)
   sent : Sent order book
@@ -270,11 +248,11 @@ executing s h c ps e = go (readable s (logOf s h) (phaseAt s h) (always-sent s h
     n : (l : Log) × (logOf s h ≡ Handed (ItemExecute c ps) ∷ l)
     n = newest s h (ItemExecute c ps) e
 
-    go : Readable s (logOf s h) (phaseAt s h) → Executing s h
+    go : Readable (logOf s h) (phaseAt s h) → Executing s h
     go (inl plain) = absurd (subst Plain (n .1) plain)
     go (inr k) =
-        let x = subst (λ l. AtExecute l (k .0)) (n .1) (k .2 .1) in
-        record { book = k .0; shown = k .1; config = k .2 .0; order = x .0; call = ap callOf (n .1) ∙ x .1; sent = x .2 }
+        let x = subst (λ l. AtExecute l (k .0)) (n .1) (k .2) in
+        record { book = k .0; shown = k .1; order = x .0; call = ap callOf (n .1) ∙ x .1; sent = x .2 }
 
 -- what readings see once the order is taken
 lease-shown : (o : Submission) (c : Capability) (x : Lease) (b : Book) → leaseAt b (c .resource) ≡ some x
@@ -311,9 +289,9 @@ module _ (s : Start) (h : History) (c : ℕ) (ps : List ℤ) (out : outputAt s h
           let stopped = state-facts s h .mask-only-estopped b shows (meets (b .flags) (b .config) (eqb-false _ _ e)) in
           absurd (ready (subst Unready (sym stopped) tt))
 
-  dispatched : b .config ≡ s .config → Sent (k .submission) b → Dispatched s (logOf s h) b c ps
+  dispatched : Sent (k .submission) b → Dispatched s (logOf s h) b c ps
   unfolding withSequence orderCapability consumed withReplay withLeases
-  dispatched config d =
+  dispatched d =
       let a = d .admissible in
       let x = withSequence (k .submission .action .sequence) (a .lease) in
       let base = holds s h b shows .0 in
@@ -337,7 +315,7 @@ module _ (s : Start) (h : History) (c : ℕ) (ps : List ℤ) (out : outputAt s h
         named = a .authority .0;
         boot = a .boot ∙ sym (ap (λ (y : Book). y .bootId) (d .shown)) ∙ base .own;
         permitted = rw flags (a .flags);
-        unmasked = subst (λ (y : Config). bitAnd (b .flags) (y .«estop_mask») ≡ 0) config (unmasked-at ready);
+        unmasked = subst (λ (y : Config). bitAnd (b .flags) (y .«estop_mask») ≡ 0) (base .config) (unmasked-at ready);
         received = a .received;
         valid = a .in-time .1;
         begun = a .not-early;
@@ -356,4 +334,4 @@ dispatch-admissible s h c ps e =
     let a = executing s h c ps e in
     let k = only-submissions s h c ps e in
     let sent = subst (λ o. Sent o (a .book)) (submit-same (sym (a .call) ∙ k .call)) (a .sent) in
-    (a .book, a .shown, dispatched s h c ps e (a .book) (a .shown) k (a .config) sent)
+    (a .book, a .shown, dispatched s h c ps e (a .book) (a .shown) k sent)

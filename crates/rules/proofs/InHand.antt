@@ -12,9 +12,9 @@ use Rattle.rules.specs.Book.{Book}
 use Rattle.rules.specs.Interaction.{Interaction, Done, Observe, Execute, Fallback, Record}
 use Rattle.rules.specs.Admissible.{Mem}
 use Rattle.rules.specs.Protocol.{Call, Submit, Reply, FellBack, Input, Replies, Item, ItemExecute, Output, Started, StartRefused, Hands, Answers, Reminds, Refuses, Shows, NoRuntime, Start, Phase, bookIn, begin, proceed, start, called, effect, apply, react}
-use Rattle.rules.specs.Log.{History, phaseAt, outputAt, Event, Took, Replied, Handed, Log, handed, tookEffect, arrived, extended, logOf, opened, bookBefore, callOf, Exchange, withReply, withItem, current, submissionOf, reaching, executed}
+use Rattle.rules.specs.Log.{History, phaseAt, outputAt, Event, Took, Replied, Handed, Ended, Log, handed, tookEffect, arrived, extended, logOf, opened, bookBefore, callOf, Exchange, withReply, withItem, current, submissionOf, reaching, executed}
 use Rattle.rules.specs.Claim.{Runs, here}
-use Rattle.rules.proofs.Steps.{Stands, atObserve, atExecute, atFallback, atRecord, itemAt, handed-item, effective, Step, stays, tries, begins, answers, step}
+use Rattle.rules.proofs.Steps.{Stands, atObserve, atExecute, atFallback, atRecord, eventAt, handed-event, effective, Step, stays, tries, begins, answers, step}
 use Rattle.rules.proofs.Trees.{itemsAt, item-taken, one-more}
 
 -- ---- where an interaction stands
@@ -63,8 +63,8 @@ module _ {old : Option Book} {book : Book} (began : old ≡ some book) where
   link x is u w e = record { book = book; began = began; ran = record { at = u; answered = is; run = w; items = e }; phase = refl }
 
   enter : (l : Log) (x : Exchange) (u : Interaction) → current l ≡ some x → Runs (begin (x .call) book) (x .replies) (x .items) u
-      → Track (current (itemAt u ++ l)) old (proceed u .phase)
-  unfolding current withItem itemAt itemsAt
+      → Track (current (eventAt u ++ l)) old (proceed u .phase)
+  unfolding current withItem eventAt itemsAt
   enter l x (Done b a) e w = rw e (link x (x .items) (Done b a) w (sym (append-nil (x .items))))
   enter l x (Observe axis b k) e w = rw e (link _ (x .items) (Observe axis b k) w refl)
   enter l x (Execute c p b k) e w = rw e (link _ (x .items) (Execute c p b k) w refl)
@@ -107,7 +107,7 @@ track-step l old p i (stays st) t = rw (st .log l, st .book (bookIn p) old, st .
 track-step l old p i (tries s axis rest good ok) t =
     after-reply l old p (FellBack ok) (λ x e k. absurd (Option·some-ne-none _ (sym (shows (k .ran .at) .1) ∙ ap bookIn (k .phase)))) (current l) refl t
 track-step l old p i (begins b c) t =
-    rw (effective (begin c b), handed-item (begin c b))
+    rw (effective (begin c b), handed-event (begin c b))
     (enter refl (Took c ∷ l) (record { call = c; replies = []; items = [] }) (begin c b) refl here)
 track-step l old p i (answers {r = r} u v a) t =
     after-reply l old p r
@@ -155,6 +155,7 @@ call-in [] = refl
 call-in (Took c ∷ l) = refl
 call-in (Replied r ∷ l) = call-in l ∙ sym (reply-call r (current l))
 call-in (Handed i ∷ l) = call-in l ∙ sym (item-call i (current l))
+call-in (Ended a ∷ l) = call-in l
 
 pub current-call : (l : Log) (x : Exchange) → current l ≡ some x → callOf l ≡ some (x .call)
 unfolding callIn
@@ -189,6 +190,7 @@ module _ (i : Item) (c : Call) (P : Log → Type 0) (keeps : (e : Event) (l : Lo
   found (Replied r ∷ l) e m = keeps (Replied r) l (found l e (rw (reply-items r (current l)) at m))
   found (Handed j ∷ l) e m =
       ⊎-elim (λ q. rw (← q) (at l e)) (λ m. keeps (Handed j) l (found l e m)) (new-or-before i j (current l) m)
+  found (Ended a ∷ l) e m = keeps (Ended a) l (found l e m)
 
   pub item-found : (l : Log) (x : Exchange) → current l ≡ some x → x .call ≡ c → Mem i (x .items) → P l
   unfolding itemsIn
@@ -206,6 +208,7 @@ unfolding executed
 still-executed o (Took c) l m = m
 still-executed o (Replied r) l m = m
 still-executed o (Handed i) l m = right o (reaching i (callOf l)) (executed l) m
+still-executed o (Ended a) l m = m
 
 -- an order whose call has handed out execute is among those that reached it
 pub current-executed : (l : Log) (x : Exchange) (o : Submission) (c : ℕ) (p : List ℤ) → current l ≡ some x → x .call ≡ Submit o

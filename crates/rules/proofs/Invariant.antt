@@ -1,13 +1,14 @@
 -- The invariant of log and book, and that every step on the book keeps it. It is a record over what the log and the book say (orders
 -- executed and admitted, live leases, ..), so that a step which touches none of it is the identity. Assumes nothing.
 use Prim.Native.Nat.{ℕ, zero, suc, _+_, _<_, _≤_}
-use mathlib.Core.Bool.{Bool, true, false, cond, _||_, false≢true}
+use mathlib.Core.Bool.{Bool, true, false, cond, false≢true}
 use mathlib.Core.List.{List, [], _∷_, map}
 use mathlib.Core.Logic.{inl, inr, _≢_}
 use mathlib.Core.Option.{Option, some, none, Option·none-ne-some, Option·some-injective}
 use mathlib.Core.Path.{_≡_, refl, sym, ap, _∙_, subst}
 use native.Mathlib.Omega.{arith}
 use borrow.Author.Tests.{eqb-true, eq-eqb, ne-eqb}
+use lib.Bits.{bitOr}
 use lib.Dec.{eqb}
 use lib.IntN.{ℤ}
 use lib.ListN.{length, length-set, getD, set, take, replicate}
@@ -15,6 +16,7 @@ use lib.Seq.{take-take}
 use Rattle.model.specs.declared.Action.{Action}
 use Rattle.model.specs.declared.Active.{Active}
 use Rattle.model.specs.declared.Capability.{Capability}
+use Rattle.model.specs.declared.Config.{Config}
 use Rattle.model.specs.declared.Lease.{Lease}
 use Rattle.model.specs.declared.LeaseRequest.{LeaseRequest}
 use Rattle.model.specs.declared.Reason.{Reason}
@@ -23,22 +25,23 @@ use Rattle.model.specs.declared.Renewal.{Renewal}
 use Rattle.model.specs.declared.Replay.{Replay}
 use Rattle.model.specs.declared.RuntimeState.{RuntimeState}
 use Rattle.model.specs.declared.Submission.{Submission}
-use Rattle.model.specs.Soundness.{axisUsed, sound}
-use Rattle.model.proofs.Meaning.{sound-axis}
-use Rattle.rules.specs.Book.{Book, leaseAt, withLeases, withActive, withReplay, withReceipts, withNextReceipt, withNextLease, withEpoch, withFlags, withStateAt, withLastTick, withState, withInvalidCount, withEstopSeen}
+use Rattle.model.specs.Soundness.{sound}
+use Rattle.rules.specs.Book.{Book, leaseAt, withLeases, withActive, withReplay, withReceipts, withNextReceipt, withNextLease, withEpoch, withFlags, withLastTick, withState, withInvalidCount, withEstopSeen}
 use Rattle.rules.specs.Receipts.{top, bump, receiptCapacity, keep, kept}
+use Rattle.rules.specs.Interaction.{Answer}
 use Rattle.rules.specs.Rules.{replayCapacity, bumpEpoch, cleared, refreshState, newLease, granted, extended, withSequence, consumed}
-use Rattle.rules.specs.Protocol.{Call, Tick, UpdateState, EmergencyStop, PollEstop, RecoverLocal, Acquire, Renew, Cancel, Submit, Reply, ItemObserve, ItemExecute, ItemFallback, ItemRecord, Start, opening, refusedStart}
-use Rattle.rules.specs.Log.{Took, Replied, Handed, Log, callOf, submissionOf, reaching, executed, counted, nextNumber, keptAfter, receiptsOf, observing, Admitted, admittedAs, admitting, admissions, entryOf, highest, Tenancy, tenancyOf, until, renewedBy, isControl, isGrant, recordedOn, holding, live, afterFallback, epochAfter, leastEpoch, epochTaken, mostEpoch}
+use Rattle.rules.specs.Protocol.{Call, Acquire, Renew, Submit, Reply, ItemObserve, ItemExecute, ItemFallback, ItemRecord, Start, opening, refusedStart}
+use Rattle.rules.specs.Log.{Took, Replied, Handed, Ended, Log, callOf, submissionOf, reaching, executed, counted, nextNumber, keptAfter, receiptsOf, observing, Admitted, admittedAs, admitting, admissions, entryOf, highest, Tenancy, tenancyOf, until, renewedBy, isControl, isGrant, recordedOn, holding, live, seenRaise, stops, fallsFor, inForce, flagsOf, bumpsAt, bumps}
 use Rattle.rules.specs.Admissible.{Mem}
-use Rattle.rules.specs.Claim.{Distinct, Carried, Leased, Observing, Recording, tenancyIn, Rising, Name, nameOf}
+use Rattle.rules.specs.Claim.{Distinct, Carried, Leased, Observing, Recording, tenancyIn, Rising, Name, nameOf, SoundStart}
 use Rattle.rules.proofs.Soundness.{sound-start}
 use Rattle.rules.proofs.Safe.{Plain}
 use Rattle.rules.proofs.Keeps.{at-set, at-set-in}
 use Rattle.rules.proofs.Receipts.{rising-keep}
-use Rattle.rules.proofs.Counters.{bump-up, bump-mono, bump-below, highest-none, highest-above, highest-new, highest-other}
+use Rattle.rules.proofs.Counters.{bump-up, bump-below, highest-none, highest-above, highest-new, highest-other}
+use Rattle.rules.proofs.Epochs.{EpochsOf, EpochsAt, epochs-took, epochs-stopped, epochs-fallen, epochs-startup, epochs-recorded, epochs-granted}
 
--- ---- the invariant, in three parts
+-- ---- the invariant, in three parts, with Epochs as a fourth
 
 abbrev pub held : Option Lease → Option Tenancy
 held none = none
@@ -76,28 +79,27 @@ pub record Orders (s : Start) (E : List Submission) (A : List Admitted) (entries
   pub home : (o : Action) → Mem o (orders E) → o .«boot_id» ≡ s .bootId
   pub distinct : Distinct (orders E)
 
--- the counters: `R` are the receipts kept, `N` is the next one's number, and the epoch lies between `lo` and `hi`
-pub record Counts (R : List Receipt) (N lo hi : ℕ) (receipts : List Receipt) (nextReceipt epoch : ℕ) : Type 0 where
+-- the receipts: `R` are those kept, `N` is the next one's number
+pub record Receipts (R : List Receipt) (N : ℕ) (receipts : List Receipt) (nextReceipt : ℕ) : Type 0 where
   pub kept : receipts ≡ R
   pub next : nextReceipt ≡ N
   pub rising : nextReceipt < top → Rising nextReceipt receipts
-  pub least : lo ≤ epoch
-  pub most : epoch ≤ hi
 
-pub record Inv (s : Start) (E : List Submission) (A : List Admitted) (L : ℕ → Option Tenancy) (R : List Receipt) (N lo hi : ℕ)
-    (boot : ℕ) (caps : List Capability) (leases : List (Option Lease)) (nextLease : ℕ) (entries : List Replay) (receipts : List Receipt)
-    (nextReceipt epoch : ℕ) : Type 0 where
-  pub low : (axis : ℕ) → axisUsed (s .capabilities) axis ≡ true → axis < 8
+pub record Inv (s : Start) (E : List Submission) (A : List Admitted) (L : ℕ → Option Tenancy) (R : List Receipt) (N : ℕ)
+    (boot : ℕ) (configured : Config) (caps : List Capability) (leases : List (Option Lease)) (nextLease : ℕ) (entries : List Replay)
+    (receipts : List Receipt) (nextReceipt : ℕ) : Type 0 where
+  pub sound : SoundStart s
   pub own : boot ≡ s .bootId
+  pub config : configured ≡ s .config
   pub capabilities : caps ≡ s .capabilities
   pub leasing : Leases A L leases nextLease
   pub ordered : Orders s E A entries
-  pub counts : Counts R N lo hi receipts nextReceipt epoch
+  pub counts : Receipts R N receipts nextReceipt
 
 abbrev pub InvBook : Start → Log → Book → Type 0
 InvBook s l b =
-    Inv s (executed l) (admissions l) (λ i. live i l) (receiptsOf l) (nextNumber l) (leastEpoch l) (mostEpoch l)
-    (b .bootId) (b .capabilities) (b .leases) (b .nextLease) (b .replay) (b .receipts) (b .nextReceipt) (b .epoch)
+    Inv s (executed l) (admissions l) (λ i. live i l) (receiptsOf l) (nextNumber l)
+    (b .bootId) (b .config) (b .capabilities) (b .leases) (b .nextLease) (b .replay) (b .receipts) (b .nextReceipt)
 
 abbrev pub Proper : Start → Log → ℕ → List ℤ → Type 0
 Proper s l c p = (k : Carried l c p) × Leased s l (k .submission)
@@ -111,16 +113,17 @@ Carry s (Handed (ItemObserve axis) ∷ l) = Observing s l axis
 Carry s (Handed (ItemExecute c p) ∷ l) = Proper s (Handed (ItemExecute c p) ∷ l) c p
 Carry s (Handed (ItemFallback axis r) ∷ l) = Unit
 Carry s (Handed (ItemRecord r) ∷ l) = Recording l r
+Carry s (Ended a ∷ l) = Unit
 
 abbrev pub I : Start → Log → Book → Type 0
-I s l b = InvBook s l b × Carry s l
+I s l b = InvBook s l b × Carry s l × EpochsOf s l b
 
 -- ---- steps that the invariant does not see
 
 module _ (s : Start) (l : Log) (b : Book) (h : I s l b) where
   pub inv-replied : (r : Reply) → I s (Replied r ∷ l) b
-  unfolding executed admissions live receiptsOf nextNumber leastEpoch mostEpoch
-  inv-replied r = (h .0, tt)
+  unfolding executed admissions live receiptsOf nextNumber seenRaise flagsOf stops inForce bumps bumpsAt
+  inv-replied r = (h .0, tt, h .2)
 
   pub inv-restated : (x : RuntimeState) → I s l (withState x b)
   unfolding withState
@@ -129,18 +132,6 @@ module _ (s : Start) (l : Log) (b : Book) (h : I s l b) where
   pub inv-ticked : (now : ℕ) → I s l (withLastTick now b)
   unfolding withLastTick
   inv-ticked now = h
-
-  pub inv-stamped : (now : ℕ) → I s l (withStateAt now b)
-  unfolding withStateAt
-  inv-stamped now = h
-
-  pub inv-flagged : (flags : ℕ) → I s l (withFlags flags b)
-  unfolding withFlags
-  inv-flagged flags = h
-
-  pub inv-seen : (raised : ℕ) → I s l (withEstopSeen raised b)
-  unfolding withEstopSeen
-  inv-seen raised = h
 
   pub inv-counted : (n : ℕ) → I s l (withInvalidCount n b)
   unfolding withInvalidCount
@@ -154,79 +145,24 @@ module _ (s : Start) (l : Log) (b : Book) (h : I s l b) where
   unfolding refreshState
   inv-refreshed = inv-restated _
 
--- ---- the counters
+-- ---- a call is taken, and ends
 
-taken-up : (c : Call) (n : ℕ) → n ≤ epochTaken c n
-unfolding epochTaken
-taken-up (Tick now) n = omega arith
-taken-up (UpdateState flags now) n = bump-up n
-taken-up (EmergencyStop now) n = omega arith
-taken-up (PollEstop raised now) n = omega arith
-taken-up (RecoverLocal now) n = omega arith
-taken-up (Acquire r now) n = omega arith
-taken-up (Renew r) n = omega arith
-taken-up (Cancel owner id now) n = omega arith
-taken-up (Submit o) n = omega arith
+-- one that neither stops nor polls
+pub inv-took : (s : Start) (c : Call) (l : Log) (b : Book) → stops (Took c) l ≡ false → seenRaise (Took c ∷ l) ≡ seenRaise l → I s l b
+    → I s (Took c ∷ l) b
+unfolding executed admissions live receiptsOf nextNumber
+inv-took s c l b no-stop same h = (h .0, tt, epochs-took s c l b no-stop same (h .2))
 
-le-trans : (a b c : ℕ) → a ≤ b → b ≤ c → a ≤ c
-le-trans a b c h k = omega arith
+-- a stop, once the mask is set in the flags
+pub inv-stopped : (s : Start) (c : Call) (l : Log) (b : Book) (seen : ℕ) → stops (Took c) l ≡ true → seen ≡ seenRaise (Took c ∷ l) → I s l b
+    → I s (Took c ∷ l) (withFlags (bitOr (b .flags) (b .config .«estop_mask»)) (withEstopSeen seen b))
+unfolding executed admissions live receiptsOf nextNumber withFlags withEstopSeen
+inv-stopped s c l b seen stop same h = (h .0, tt, epochs-stopped s c l b seen stop (h .0 .config) same (h .2))
 
--- the epoch moves within new bounds
-counts-epoch : {R : List Receipt} {N lo hi : ℕ} {rs : List Receipt} {n e : ℕ} (lo′ hi′ e′ : ℕ) → Counts R N lo hi rs n e
-    → lo′ ≤ e′ → e′ ≤ hi′ → Counts R N lo′ hi′ rs n e′
-counts-epoch lo′ hi′ e′ c least most = record { kept = c .kept; next = c .next; rising = c .rising; least = least; most = most }
-
--- a receipt with the next number
-counts-recorded : {R : List Receipt} {N lo hi : ℕ} {rs : List Receipt} {n e : ℕ} (r : Receipt) (lo′ hi′ e′ : ℕ) → r .«receipt_id» ≡ n
-    → Counts R N lo hi rs n e → lo′ ≤ e′ → e′ ≤ hi′
-    → Counts (keep receiptCapacity R r) (bump N) lo′ hi′ (keep receiptCapacity rs r) (bump n) e′
-counts-recorded {rs = rs} {n = n} r lo′ hi′ e′ id c least most =
-    record {
-      kept = ap (λ (x : List Receipt). keep receiptCapacity x r) (c .kept);
-      next = ap bump (c .next);
-      rising = rising;
-      least = least;
-      most = most;
-    }
-  where
-    rising : bump n < top → Rising (bump n) (keep receiptCapacity rs r)
-    rising h =
-        let room : n < top = omega (arith, bump-up n) in
-        rw (bump-below n room) (rising-keep n rs r id (c .rising room))
-
--- a call is taken
-pub inv-took : (s : Start) (c : Call) (l : Log) (b : Book) → I s l b → I s (Took c ∷ l) b
-unfolding executed admissions live receiptsOf nextNumber leastEpoch mostEpoch
-inv-took s c l b h =
-    let f = h .0 in
-    let k = f .counts in (
-      record {
-        low = f .low;
-        own = f .own;
-        capabilities = f .capabilities;
-        leasing = f .leasing;
-        ordered = f .ordered;
-        counts = counts-epoch _ _ _ k (k .least) (le-trans _ _ _ (k .most) (taken-up c (mostEpoch l)));
-      },
-      tt,
-    )
-
--- the epoch of new flags, where the call in hand left room for it
-pub inv-bumped : (s : Start) (l : Log) (b : Book) → bump (b .epoch) ≤ mostEpoch l → I s l b → I s l (bumpEpoch b)
-unfolding bumpEpoch withEpoch
-inv-bumped s l b room h =
-    let f = h .0 in
-    let k = f .counts in (
-      record {
-        low = f .low;
-        own = f .own;
-        capabilities = f .capabilities;
-        leasing = f .leasing;
-        ordered = f .ordered;
-        counts = counts-epoch _ _ _ k (le-trans _ _ _ (k .least) (bump-up (b .epoch))) room;
-      },
-      h .1,
-    )
+-- as it ends, the flags that this brings into force are set
+pub inv-ended : (s : Start) (a : Answer) (l : Log) (b : Book) → InvBook s l b → EpochsAt s (Ended a) l b → I s (Ended a ∷ l) b
+unfolding executed admissions live receiptsOf nextNumber seenRaise bumps bumpsAt
+inv-ended s a l b f e = (f, tt, e)
 
 -- ---- a receipt of an order or a fallback
 
@@ -238,9 +174,16 @@ quiet-grant : (r : Receipt) → isControl (r .decision) ≡ false → isGrant r 
 unfolding isGrant
 quiet-grant r e = rw e
 
-quiet-epoch : (r : Receipt) (c : Option Call) (n : ℕ) → isControl (r .decision) ≡ false → epochAfter (ItemRecord r) c n ≡ n
-unfolding epochAfter
-quiet-epoch r c n e = rw (quiet-grant r e)
+-- a receipt with the next number
+receipts-kept : {R : List Receipt} {N : ℕ} {rs : List Receipt} {n : ℕ} (r : Receipt) → r .«receipt_id» ≡ n → Receipts R N rs n
+    → Receipts (keep receiptCapacity R r) (bump N) (keep receiptCapacity rs r) (bump n)
+receipts-kept {rs = rs} {n = n} r id c =
+    record { kept = ap (λ (x : List Receipt). keep receiptCapacity x r) (c .kept); next = ap bump (c .next); rising = rising }
+  where
+    rising : bump n < top → Rising (bump n) (keep receiptCapacity rs r)
+    rising h =
+        let room : n < top = omega (arith, bump-up n) in
+        rw (bump-below n room) (rising-keep n rs r id (c .rising room))
 
 -- the same live leases
 leases-live : {A : List Admitted} {L M : ℕ → Option Tenancy} {ls : List (Option Lease)} {n : ℕ} → ((i : ℕ) → M i ≡ L i) → Leases A L ls n → Leases A M ls n
@@ -257,23 +200,25 @@ leases-live e f =
 
 pub inv-recorded : (s : Start) (r : Receipt) (l : Log) (b : Book) → isControl (r .decision) ≡ false → r .«receipt_id» ≡ b .nextReceipt → I s l b
     → I s (Handed (ItemRecord r) ∷ l) (kept r b)
-unfolding executed reaching admissions admitting live holding receiptsOf keptAfter nextNumber counted leastEpoch mostEpoch kept withNextReceipt withReceipts
+unfolding executed reaching admissions admitting live holding receiptsOf keptAfter nextNumber counted kept withNextReceipt withReceipts
 inv-recorded s r l b quiet id h =
     let f = h .0 in
     let k = f .counts in (
       record {
-        low = f .low;
+        sound = f .sound;
         own = f .own;
+        config = f .config;
         capabilities = f .capabilities;
         leasing = leases-live (λ i. quiet-live i r (callOf l) (live i l) quiet) (f .leasing);
         ordered = f .ordered;
-        counts = counts-recorded r _ _ _ id k (rw (quiet-epoch r (callOf l) (leastEpoch l) quiet) (k .least)) (rw (quiet-epoch r (callOf l) (mostEpoch l) quiet) (k .most));
+        counts = receipts-kept r id k;
       },
       record {
         numbered = id ∙ k .next;
         free = λ e. absurd (false≢true (sym (quiet-grant r quiet) ∙ e));
         below = λ e. absurd (false≢true (sym (quiet-grant r quiet) ∙ e));
       },
+      epochs-recorded s r l b (quiet-grant r quiet) (h .2),
     )
 
 -- ---- a fallback ends the lease of its axis
@@ -300,22 +245,23 @@ leases-fallen A L ls n axis f =
     ended i true e m k = sym (ap held (m (sym (eqb-true axis i e))))
     ended i false e m k = k
 
-pub inv-fallen : (s : Start) (axis : ℕ) (reason : Reason) (c : Call) (l : Log) (b : Book) → callOf l ≡ some c → I s l b
-    → I s (Handed (ItemFallback axis reason) ∷ l) (cleared axis b)
-unfolding executed reaching admissions admitting live holding receiptsOf keptAfter nextNumber counted leastEpoch mostEpoch epochAfter afterFallback cleared bumpEpoch withEpoch withLeases withActive
-inv-fallen s axis reason c l b call h =
-    let f = h .0 in
-    let k = f .counts in (
-      record {
-        low = f .low;
-        own = f .own;
-        capabilities = f .capabilities;
-        leasing = leases-fallen (admissions l) (λ i. live i l) (b .leases) (b .nextLease) axis (f .leasing);
-        ordered = f .ordered;
-        counts = counts-epoch _ _ _ k (rw call (bump-mono _ _ (k .least))) (rw call (bump-mono _ _ (k .most)));
-      },
-      tt,
-    )
+-- as the item is handed out, the flags that it brings into force are set
+pub inv-fallen : (s : Start) (axis : ℕ) (reason : Reason) (c : Call) (l : Log) (b : Book) → callOf l ≡ some c → InvBook s l b
+    → EpochsAt s (Handed (ItemFallback axis reason)) l b → I s (Handed (ItemFallback axis reason) ∷ l) (cleared axis b)
+unfolding executed reaching admissions admitting live holding receiptsOf keptAfter nextNumber counted cleared bumpEpoch withEpoch withLeases withActive
+inv-fallen s axis reason c l b call f e = (
+  record {
+    sound = f .sound;
+    own = f .own;
+    config = f .config;
+    capabilities = f .capabilities;
+    leasing = leases-fallen (admissions l) (λ i. live i l) (b .leases) (b .nextLease) axis (f .leasing);
+    ordered = f .ordered;
+    counts = f .counts;
+  },
+  tt,
+  epochs-fallen s axis reason c l b call e,
+)
 
 -- ---- leases of one number
 
@@ -359,7 +305,7 @@ pub record Granting (r : Receipt) (request : LeaseRequest) (n : ℕ) (next : ℕ
 pub inv-granted : (s : Start) (r : Receipt) (request : LeaseRequest) (now : ℕ) (l : Log) (b : Book) → Granting r request (b .nextLease) (b .nextReceipt)
     → request .resource < 8 → b .nextLease < top → leaseAt b (request .resource) ≡ none → callOf l ≡ some (Acquire request now) → I s l b
     → I s (Handed (ItemRecord r) ∷ l) (kept r (granted (newLease request (b .nextLease) now) b))
-unfolding executed reaching admissions admitting live holding recordedOn tenancyOf receiptsOf keptAfter nextNumber counted leastEpoch mostEpoch epochAfter kept withNextReceipt withReceipts granted refreshState withState bumpEpoch withEpoch withLeases withNextLease newLease
+unfolding executed reaching admissions admitting live holding recordedOn tenancyOf receiptsOf keptAfter nextNumber counted kept withNextReceipt withReceipts granted refreshState withState bumpEpoch withEpoch withLeases withNextLease newLease
 inv-granted s r request now l b g inside room free call h =
     let f = h .0 in
     let k = f .counts in
@@ -368,8 +314,9 @@ inv-granted s r request now l b g inside room free call h =
     let x = newLease request (b .nextLease) now in
     let up : bump (b .nextLease) ≡ b .nextLease + 1 = bump-below (b .nextLease) room in (
       record {
-        low = f .low;
+        sound = f .sound;
         own = f .own;
+        config = f .config;
         capabilities = f .capabilities;
         leasing =
             record {
@@ -385,13 +332,14 @@ inv-granted s r request now l b g inside room free call h =
                   (λ e. sym (highest-none (b .nextLease) (admissions l) (λ a m q. omega (arith, n .known a m)))) (λ m. n .last i);
             };
         ordered = f .ordered;
-        counts = counts-recorded r _ _ _ (g .number) k (rw (g .grant) (bump-mono _ _ (k .least))) (rw (g .grant) (bump-mono _ _ (k .most)));
+        counts = receipts-kept r (g .number) k;
       },
       record {
         numbered = g .number ∙ k .next;
         free = λ e. rw (g .axis) (n .stands axis ∙ ap held free);
         below = λ e. rw (g .lease) room;
       },
+      epochs-granted s r l b (g .grant) (h .2),
     )
   where
     more : (o : Option Lease) → bump (b .nextLease) ≡ b .nextLease + 1 → IdBelow (b .nextLease) o → IdBelow (bump (b .nextLease)) o
@@ -409,15 +357,16 @@ pub record Renewing (r : Receipt) (axis next : ℕ) : Type 0 where
 pub inv-renewed : (s : Start) (r : Receipt) (axis : ℕ) (renewal : Renewal) (x : Lease) (l : Log) (b : Book) → Renewing r axis (b .nextReceipt)
     → leaseAt b axis ≡ some x → callOf l ≡ some (Renew renewal) → I s l b
     → I s (Handed (ItemRecord r) ∷ l) (kept r (withLeases (set (b .leases) axis (some (extended renewal x))) b))
-unfolding executed reaching admissions admitting live holding recordedOn renewedBy until receiptsOf keptAfter nextNumber counted leastEpoch mostEpoch epochAfter kept withNextReceipt withReceipts withLeases extended
+unfolding executed reaching admissions admitting live holding recordedOn renewedBy until receiptsOf keptAfter nextNumber counted kept withNextReceipt withReceipts withLeases extended
 inv-renewed s r axis renewal x l b g at call h =
     let f = h .0 in
     let k = f .counts in
     let n = f .leasing in
     let v = extended renewal x in (
       record {
-        low = f .low;
+        sound = f .sound;
         own = f .own;
+        config = f .config;
         capabilities = f .capabilities;
         leasing =
             record {
@@ -432,13 +381,14 @@ inv-renewed s r axis renewal x l b g at call h =
               last = λ i. at-set none (LastIs (admissions l)) (b .leases) axis (some v) i (λ e. last-at _ _ x at (n .last axis)) (λ m. n .last i);
             };
         ordered = f .ordered;
-        counts = counts-recorded r _ _ _ (g .number) k (rw (g .no-grant) (k .least)) (rw (g .no-grant) (k .most));
+        counts = receipts-kept r (g .number) k;
       },
       record {
         numbered = g .number ∙ k .next;
         free = λ e. absurd (false≢true (sym (g .no-grant) ∙ e));
         below = λ e. absurd (false≢true (sym (g .no-grant) ∙ e));
       },
+      epochs-recorded s r l b (g .no-grant) (h .2),
     )
   where
     same : (i : ℕ) → eqb (r .resource) i ≡ true → i ≡ axis
@@ -500,7 +450,7 @@ orders-admitted s E A es o n unused f =
 pub inv-admitted : (s : Start) (o : Submission) (c : Capability) (x : Lease) (l : Log) (b : Book) → Passed o c x b
     → callOf l ≡ some (Submit o) → observing l ≡ false → Observing s l (c .resource) → I s l b
     → I s (Handed (ItemObserve (c .resource)) ∷ l) (consumed c x o b)
-unfolding executed reaching admissions admitting submissionOf live holding receiptsOf keptAfter nextNumber counted leastEpoch mostEpoch epochAfter consumed withReplay withLeases withSequence
+unfolding seenRaise flagsOf stops inForce fallsFor bumps bumpsAt executed reaching admissions admitting submissionOf live holding receiptsOf keptAfter nextNumber counted consumed withReplay withLeases withSequence
 inv-admitted s o c x l b p call unseen carry h =
     let f = h .0 in
     let n = f .leasing in
@@ -510,8 +460,9 @@ inv-admitted s o c x l b p call unseen carry h =
     let es = orders-admitted s (executed l) (admissions l) (b .replay) o (nextNumber l) (p .unused) (f .ordered) in (
       rw (unseen, call)
           (record {
-            low = f .low;
+            sound = f .sound;
             own = f .own;
+            config = f .config;
             capabilities = f .capabilities;
             leasing =
                 record {
@@ -529,6 +480,7 @@ inv-admitted s o c x l b p call unseen carry h =
             counts = f .counts;
           }),
       carry,
+      h .2,
     )
   where
     known : x .id < b .nextLease → (y : Admitted) → Mem y (admittedAs (nextNumber l) o ∷ admissions l) → y .submission .action .«lease_id» < b .nextLease
@@ -544,8 +496,8 @@ inv-admitted s o c x l b p call unseen carry h =
 
 -- the second observation
 pub inv-observed : (s : Start) (axis : ℕ) (l : Log) (b : Book) → observing l ≡ true → Observing s l axis → I s l b → I s (Handed (ItemObserve axis) ∷ l) b
-unfolding executed reaching admissions admitting live holding receiptsOf keptAfter nextNumber counted leastEpoch mostEpoch epochAfter
-inv-observed s axis l b seen carry h = (rw seen (h .0), carry)
+unfolding seenRaise flagsOf stops inForce fallsFor bumps bumpsAt executed reaching admissions admitting live holding receiptsOf keptAfter nextNumber counted
+inv-observed s axis l b seen carry h = (rw seen (h .0), carry, h .2)
 
 -- ---- an order reaches execute
 
@@ -570,13 +522,14 @@ pub inv-executed : (s : Start) (o : Submission) (c : ℕ) (ps : List ℤ) (l : L
     → o .action .«boot_id» ≡ s .bootId → ¬ Mem (o .action) (orders (executed l))
     → (a : Admitted) × Mem a (admissions l) × (a .submission ≡ o)
     → Proper s (Handed (ItemExecute c ps) ∷ l) c ps → I s l b → I s (Handed (ItemExecute c ps) ∷ l) b
-unfolding executed reaching submissionOf admissions admitting live holding receiptsOf keptAfter nextNumber counted leastEpoch mostEpoch epochAfter
+unfolding seenRaise flagsOf stops inForce fallsFor bumps bumpsAt executed reaching submissionOf admissions admitting live holding receiptsOf keptAfter nextNumber counted
 inv-executed s o c ps l b call boot new admitted proper h =
     let f = h .0 in (
       rw call
           (record {
-            low = f .low;
+            sound = f .sound;
             own = f .own;
+            config = f .config;
             capabilities = f .capabilities;
             leasing = f .leasing;
             counts = f .counts;
@@ -590,6 +543,7 @@ inv-executed s o c ps l b call boot new admitted proper h =
                 };
           }),
       proper,
+      h .2,
     )
   where
     among : (y : Submission) → Mem y (o ∷ executed l) → (a : Admitted) × Mem a (admissions l) × (a .submission ≡ y)
@@ -611,6 +565,7 @@ plain-call (Handed (ItemObserve axis) ∷ l) h = absurd h
 plain-call (Handed (ItemExecute c p) ∷ l) h = absurd h
 plain-call (Handed (ItemFallback axis r) ∷ l) h = plain-call l h
 plain-call (Handed (ItemRecord r) ∷ l) h = absurd h
+plain-call (Ended a ∷ l) h = absurd h
 
 pub plain-executed : (l : Log) → Plain l → executed l ≡ []
 unfolding executed reaching
@@ -621,88 +576,7 @@ plain-executed (Handed (ItemObserve axis) ∷ l) h = absurd h
 plain-executed (Handed (ItemExecute c p) ∷ l) h = absurd h
 plain-executed (Handed (ItemFallback axis r) ∷ l) h = plain-executed l h
 plain-executed (Handed (ItemRecord r) ∷ l) h = absurd h
-
-plain-admissions : (l : Log) → Plain l → admissions l ≡ []
-unfolding admissions admitting
-plain-admissions [] h = refl
-plain-admissions (Took c ∷ l) h = absurd h
-plain-admissions (Replied r ∷ l) h = plain-admissions l h
-plain-admissions (Handed (ItemObserve axis) ∷ l) h = absurd h
-plain-admissions (Handed (ItemExecute c p) ∷ l) h = absurd h
-plain-admissions (Handed (ItemFallback axis r) ∷ l) h = plain-admissions l h
-plain-admissions (Handed (ItemRecord r) ∷ l) h = absurd h
-
-plain-live : (i : ℕ) (l : Log) → Plain l → live i l ≡ none
-unfolding live holding
-plain-live i [] h = refl
-plain-live i (Took c ∷ l) h = absurd h
-plain-live i (Replied r ∷ l) h = plain-live i l h
-plain-live i (Handed (ItemObserve axis) ∷ l) h = absurd h
-plain-live i (Handed (ItemExecute c p) ∷ l) h = absurd h
-plain-live i (Handed (ItemFallback axis r) ∷ l) h = go (eqb axis i) (plain-live i l h)
-  where
-    go : (t : Bool) → live i l ≡ none → cond t none (live i l) ≡ none
-    go true e = refl
-    go false e = e
-plain-live i (Handed (ItemRecord r) ∷ l) h = absurd h
-
-plain-receipts : (l : Log) → Plain l → receiptsOf l ≡ []
-unfolding receiptsOf keptAfter
-plain-receipts [] h = refl
-plain-receipts (Took c ∷ l) h = absurd h
-plain-receipts (Replied r ∷ l) h = plain-receipts l h
-plain-receipts (Handed (ItemObserve axis) ∷ l) h = absurd h
-plain-receipts (Handed (ItemExecute c p) ∷ l) h = absurd h
-plain-receipts (Handed (ItemFallback axis r) ∷ l) h = plain-receipts l h
-plain-receipts (Handed (ItemRecord r) ∷ l) h = absurd h
-
-plain-number : (l : Log) → Plain l → nextNumber l ≡ 1
-unfolding nextNumber counted
-plain-number [] h = refl
-plain-number (Took c ∷ l) h = absurd h
-plain-number (Replied r ∷ l) h = plain-number l h
-plain-number (Handed (ItemObserve axis) ∷ l) h = absurd h
-plain-number (Handed (ItemExecute c p) ∷ l) h = absurd h
-plain-number (Handed (ItemFallback axis r) ∷ l) h = plain-number l h
-plain-number (Handed (ItemRecord r) ∷ l) h = absurd h
-
-plain-least : (l : Log) → Plain l → leastEpoch l ≡ 1
-unfolding leastEpoch epochAfter afterFallback
-plain-least [] h = refl
-plain-least (Took c ∷ l) h = absurd h
-plain-least (Replied r ∷ l) h = plain-least l h
-plain-least (Handed (ItemObserve axis) ∷ l) h = absurd h
-plain-least (Handed (ItemExecute c p) ∷ l) h = absurd h
-plain-least (Handed (ItemFallback axis r) ∷ l) h = rw (plain-call l h) (plain-least l h)
-plain-least (Handed (ItemRecord r) ∷ l) h = absurd h
-
-plain-most : (l : Log) → Plain l → mostEpoch l ≡ 1
-unfolding mostEpoch epochAfter afterFallback
-plain-most [] h = refl
-plain-most (Took c ∷ l) h = absurd h
-plain-most (Replied r ∷ l) h = plain-most l h
-plain-most (Handed (ItemObserve axis) ∷ l) h = absurd h
-plain-most (Handed (ItemExecute c p) ∷ l) h = absurd h
-plain-most (Handed (ItemFallback axis r) ∷ l) h = rw (plain-call l h) (plain-most l h)
-plain-most (Handed (ItemRecord r) ∷ l) h = absurd h
-
-plain-carry : (s : Start) (l : Log) → Plain l → Carry s l
-plain-carry s [] h = tt
-plain-carry s (Took c ∷ l) h = tt
-plain-carry s (Replied r ∷ l) h = tt
-plain-carry s (Handed (ItemObserve axis) ∷ l) h = absurd h
-plain-carry s (Handed (ItemExecute c p) ∷ l) h = absurd h
-plain-carry s (Handed (ItemFallback axis r) ∷ l) h = tt
-plain-carry s (Handed (ItemRecord r) ∷ l) h = absurd h
-
--- a used axis is one of the eight, since a sound record names it
-used-low : (cs : List Capability) (axis : ℕ) → ((c : Capability) → Mem c cs → sound c ≡ true) → axisUsed cs axis ≡ true → axis < 8
-used-low [] axis each e = absurd (false≢true e)
-used-low (c ∷ cs) axis each e = go (eqb (c .resource) axis) refl e (used-low cs axis (λ d m. each d (inr m)))
-  where
-    go : (t : Bool) → eqb (c .resource) axis ≡ t → (t || axisUsed cs axis) ≡ true → (axisUsed cs axis ≡ true → axis < 8) → axis < 8
-    go true h e rest = omega (arith, eqb-true (c .resource) axis h, sound-axis c (each c (inl refl)))
-    go false h e rest = rest e
+plain-executed (Ended a ∷ l) h = absurd h
 
 abbrev no-tenant : Option Lease
 no-tenant = none
@@ -713,26 +587,57 @@ no-lease zero i = refl
 no-lease (suc n) zero = refl
 no-lease (suc n) (suc i) = no-lease n i
 
+-- a startup fallback changes nothing
+inv-startup : (s : Start) (axis : ℕ) (reason : Reason) (l : Log) → callOf l ≡ none → I s l (opening s)
+    → I s (Handed (ItemFallback axis reason) ∷ l) (opening s)
+unfolding executed reaching admissions admitting live holding receiptsOf keptAfter nextNumber counted opening
+inv-startup s axis reason l call h =
+    let f = h .0 in (
+      record {
+        sound = f .sound;
+        own = f .own;
+        config = f .config;
+        capabilities = f .capabilities;
+        leasing = leases-live (λ i. ended (eqb axis i) (live i l) (f .leasing .stands i ∙ ap held (no-lease 8 i))) (f .leasing);
+        ordered = f .ordered;
+        counts = f .counts;
+      },
+      tt,
+      epochs-startup s axis reason l (opening s) call (h .2),
+    )
+  where
+    ended : (t : Bool) (o : Option Tenancy) → o ≡ none → cond t none o ≡ o
+    ended true o e = sym e
+    ended false o e = refl
+
 pub inv-opening : (s : Start) (l : Log) → Plain l → refusedStart s ≡ none → I s l (opening s)
-unfolding opening
-inv-opening s l plain sound = (
-  rw (plain-executed l plain, plain-admissions l plain, plain-receipts l plain, plain-number l plain, plain-least l plain, plain-most l plain)
-      (record {
-        low = λ axis. used-low (s .capabilities) axis (sound-start s sound .each);
-        own = refl;
-        capabilities = refl;
-        leasing =
-            record {
-              eight = refl;
-              fits = omega arith;
-              below = λ i. rw (no-lease 8 i) tt;
-              unique = λ i j x y p q. absurd (Option·none-ne-some _ (sym (no-lease 8 i) ∙ p));
-              stands = λ i. plain-live i l plain ∙ sym (ap held (no-lease 8 i));
-              known = λ a m. absurd m;
-              last = λ i. rw (no-lease 8 i) tt;
-            };
-        ordered = record { replay = refl; apart = tt; among = λ x m. absurd m; home = λ o m. absurd m; distinct = tt };
-        counts = record { kept = refl; next = refl; rising = λ h. record { order = tt; latest = inl refl }; least = omega arith; most = omega arith };
-      }),
-  plain-carry s l plain,
+unfolding executed admissions live receiptsOf nextNumber seenRaise flagsOf bumps opening
+inv-opening s [] plain e = (
+  record {
+    sound = sound-start s e;
+    own = refl;
+    config = refl;
+    capabilities = refl;
+    leasing =
+        record {
+          eight = refl;
+          fits = omega arith;
+          below = λ i. rw (no-lease 8 i) tt;
+          unique = λ i j x y p q. absurd (Option·none-ne-some _ (sym (no-lease 8 i) ∙ p));
+          stands = λ i. sym (ap held (no-lease 8 i));
+          known = λ a m. absurd m;
+          last = λ i. rw (no-lease 8 i) tt;
+        };
+    ordered = record { replay = refl; apart = tt; among = λ x m. absurd m; home = λ o m. absurd m; distinct = tt };
+    counts = record { kept = refl; next = refl; rising = λ h. record { order = tt; latest = inl refl } };
+  },
+  tt,
+  record { in-force = refl; last-raise = refl; count = refl },
 )
+inv-opening s (Took c ∷ l) plain e = absurd plain
+inv-opening s (Replied r ∷ l) plain e = inv-replied s l (opening s) (inv-opening s l plain e) r
+inv-opening s (Handed (ItemObserve axis) ∷ l) plain e = absurd plain
+inv-opening s (Handed (ItemExecute c p) ∷ l) plain e = absurd plain
+inv-opening s (Handed (ItemFallback axis r) ∷ l) plain e = inv-startup s axis r l (plain-call l plain) (inv-opening s l plain e)
+inv-opening s (Handed (ItemRecord r) ∷ l) plain e = absurd plain
+inv-opening s (Ended a ∷ l) plain e = absurd plain

@@ -4,6 +4,7 @@ pub mod Admission
 pub mod Steps
 pub mod Forward
 pub mod Soundness
+pub mod Axes
 pub mod Startup
 pub mod Trees
 pub mod InHand
@@ -11,8 +12,11 @@ pub mod Exactly
 pub mod Safe
 pub mod Keeps
 pub mod Counters
+pub mod Epochs
 pub mod Receipts
 pub mod Invariant
+pub mod Within
+pub mod Update
 pub mod Calls
 pub mod Once
 pub mod Theorem

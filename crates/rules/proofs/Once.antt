@@ -16,21 +16,23 @@ use Rattle.rules.specs.Admissible.{Mem}
 use Rattle.rules.specs.Claim.{Distinct, Carried, Leased, Observing, Recording, BookFacts}
 use Rattle.rules.proofs.Safe.{Plain, SafePhase, at-wait, shows}
 use Rattle.rules.proofs.Invariant.{I, orders, held, Proper, Carry, plain-executed}
+use Rattle.rules.proofs.Within.{End}
 use Rattle.rules.proofs.Calls.{invariant}
 
 -- nothing but the start was logged, or the invariant holds
-split : (s : Start) (l : Log) (p : Phase) → SafePhase s (I s) (I s) (λ l b a. I s l b) l p → Plain l ⊎ ((b : Book) × I s l b)
+split : (s : Start) (l : Log) (p : Phase) → SafePhase s (I s) (I s) (End s) l p → Plain l ⊎ ((b : Book) × I s l b)
 split s l (Starting own axis rest good) h = inl (h .1 .0)
 split s l Gone h = inl h
 split s l (Idle b) h = inr (b, h)
-split s l (Waiting w) h = inr (waitBook w, at-wait (I s) (λ l b a. I s l b) l w h)
+split s l (Waiting w) h = inr (waitBook w, at-wait (I s) (End s) l w h)
 
 pub holds : (s : Start) (h : History) (b : Book) → bookIn (phaseAt s h) ≡ some b → I s (logOf s h) b
-holds s h b e = shows s (I s) (λ l b a. I s l b) (logOf s h) (phaseAt s h) b (invariant s h) e
+holds s h b e = shows s (I s) (End s) (logOf s h) (phaseAt s h) b (invariant s h) e
 
-pub book-facts : (s : Start) (h : History) (b : Book) → bookIn (phaseAt s h) ≡ some b → BookFacts (logOf s h) b
+pub book-facts : (s : Start) (h : History) (b : Book) → bookIn (phaseAt s h) ≡ some b → BookFacts s (logOf s h) b
 book-facts s h b e =
-    let f = holds s h b e .0 in
+    let k = holds s h b e in
+    let f = k .0 in
     record {
       standing = λ axis x q. f .leasing .stands axis ∙ ap held q;
       ended = λ axis q. f .leasing .stands axis ∙ ap held q;
@@ -40,12 +42,13 @@ book-facts s h b e =
       next = f .counts .next;
       rising = f .counts .rising;
       apart = f .ordered .apart;
-      least = f .counts .least;
-      most = f .counts .most;
+      flags = k .2 .in-force;
+      seen = k .2 .last-raise;
+      epoch = k .2 .count;
     }
 
 -- the newest event is the item that the newest output hands out
-newest : (s : Start) (h : History) (item : Item) → outputAt s h ≡ Hands item → (l : Log) × (logOf s h ≡ Handed item ∷ l)
+pub newest : (s : Start) (h : History) (item : Item) → outputAt s h ≡ Hands item → (l : Log) × (logOf s h ≡ Handed item ∷ l)
 unfolding outputAt logOf extended handed
 newest s [] item e = ([], ap handed e)
 newest s (i ∷ past) item e =

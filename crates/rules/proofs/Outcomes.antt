@@ -12,7 +12,7 @@ use Rattle.rules.specs.Book.{Book}
 use Rattle.rules.specs.Interaction.{Answer, Interaction, Done, Observe, Execute, Fallback, Record}
 use Rattle.rules.specs.Rules.{usedAxes}
 use Rattle.rules.specs.Protocol.{Call, Reply, Input, Calls, Replies, Reads, Reading, Item, ItemFallback, Output, Started, StartRefused, Hands, Answers, Reminds, Refuses, Shows, NoRuntime, Start, Phase, bookIn, begin, proceed, opening, refusedStart, startFrom, startUnless, start, startReplied, called, replied, shown, effect, apply, react}
-use Rattle.rules.specs.Log.{History, phaseAt, outputAt, Event, Took, Replied, Handed, Log, handed, tookEffect, arrived, extended, logOf}
+use Rattle.rules.specs.Log.{History, phaseAt, outputAt, Event, Took, Replied, Handed, Ended, Log, handed, tookEffect, arrived, extended, logOf}
 use Rattle.rules.specs.Admissible.{Mem}
 use Rattle.rules.specs.Claim.{Takes, observed, executed, fellBack, recorded, Runs, here, then}
 use Rattle.rules.proofs.Steps.{Stands, atObserve, atExecute, atFallback, atRecord, Stays, Step, stays, tries, begins, answers, step}
@@ -107,7 +107,7 @@ module _ (W : Log → Book → Type 0) (D : Log → Book → Answer → Type 0) 
 -- ---- every history
 
 module _ (s : Start) (I W : Log → Book → Type 0) (D : Log → Book → Answer → Type 0)
-    (ends : (l : Log) (b : Book) (a : Answer) → D l b a → I l b)
+    (ends : (l : Log) (b : Book) (a : Answer) → D l b a → I (Ended a ∷ l) b)
     (opens : (l : Log) → Plain l → refusedStart s ≡ none → I l (opening s))
     (calls : (l : Log) (c : Call) (b : Book) → I l b → Safe W D (Took c ∷ l) (begin c b)) where
   awaited : (l : Log) (p : Phase) (r : Reply) (x : Item) (t u : Interaction) → Stands t p → Takes t r x u → SafePhase s I W D l p → Safe W D (Replied r ∷ l) u

@@ -9,9 +9,9 @@ use Rattle.rules.specs.Book.{Book}
 use Rattle.rules.specs.Interaction.{Answer, Interaction, Done, Observe, Execute, Fallback, Record}
 use Rattle.rules.specs.Rules.{usedAxes}
 use Rattle.rules.specs.Protocol.{Call, Reply, Observed, Executed, FellBack, Recorded, Input, Item, ItemObserve, ItemExecute, ItemFallback, ItemRecord, Start, Wait, OnObserve, OnExecute, OnFallback, OnRecord, Phase, Starting, Gone, Idle, Waiting, waitBook, bookIn, opening, startFrom, refusedStart, startUnless, start, startReplied, replied, called, effect, apply, begin, proceed, react}
-use Rattle.rules.specs.Log.{History, phaseAt, Took, Replied, Handed, Log, handed, arrived, extended, logOf}
+use Rattle.rules.specs.Log.{History, phaseAt, Took, Replied, Handed, Ended, Log, handed, arrived, extended, logOf}
 use Rattle.rules.specs.Claim.{Takes, observed, executed, fellBack, recorded}
-use Rattle.rules.proofs.Steps.{Stands, atObserve, atExecute, atFallback, atRecord, itemAt, handed-item, effective, start-effective, Step, stays, tries, begins, answers, step}
+use Rattle.rules.proofs.Steps.{Stands, atObserve, atExecute, atFallback, atRecord, eventAt, handed-event, effective, start-effective, Step, stays, tries, begins, answers, step}
 
 -- `W` holds wherever the interaction waits, and `D` where it ends with an answer
 abbrev pub Safe : (Log → Book → Type 0) → (Log → Book → Answer → Type 0) → Log → Interaction → Type 0
@@ -33,6 +33,7 @@ Plain (Handed (ItemObserve axis) ∷ l) = ⊥
 Plain (Handed (ItemExecute c p) ∷ l) = ⊥
 Plain (Handed (ItemFallback axis r) ∷ l) = Plain l
 Plain (Handed (ItemRecord r) ∷ l) = ⊥
+Plain (Ended a ∷ l) = ⊥
 
 -- the rest of a call, for every reply
 abbrev pub SafeWait : (Log → Book → Type 0) → (Log → Book → Answer → Type 0) → Log → Wait → Type 0
@@ -57,11 +58,11 @@ at-wait W D l (OnRecord r b k) h = h .0
 
 -- what holds at the opening, and along every call, holds after every history
 module _ (s : Start) (I W : Log → Book → Type 0) (D : Log → Book → Answer → Type 0)
-    (ends : (l : Log) (b : Book) (a : Answer) → D l b a → I l b)
+    (ends : (l : Log) (b : Book) (a : Answer) → D l b a → I (Ended a ∷ l) b)
     (opens : (l : Log) → Plain l → refusedStart s ≡ none → I l (opening s))
     (calls : (l : Log) (c : Call) (b : Book) → I l b → Safe W D (Took c ∷ l) (begin c b)) where
-  enter : (l : Log) (t : Interaction) → Safe W D l t → SafePhase s I W D (itemAt t ++ l) (proceed t .phase)
-  unfolding itemAt proceed
+  enter : (l : Log) (t : Interaction) → Safe W D l t → SafePhase s I W D (eventAt t ++ l) (proceed t .phase)
+  unfolding eventAt proceed
   enter l (Done b a) h = ends l b a h
   enter l (Observe axis b k) h = h
   enter l (Execute c p b k) h = h
@@ -88,7 +89,7 @@ module _ (s : Start) (I W : Log → Book → Type 0) (D : Log → Book → Answe
   safe-step l p i (tries own axis rest good ok) h =
       rw (h .0, start-effective s _ _) (start-on (Replied (FellBack ok) ∷ l) _ _ (h .1 .0) (h .1 .1))
   safe-step l p i (begins b c) h =
-      rw (effective (begin c b), handed-item (begin c b)) (enter (Took c ∷ l) (begin c b) (calls l c b h))
+      rw (effective (begin c b), handed-event (begin c b)) (enter (Took c ∷ l) (begin c b) (calls l c b h))
   safe-step l p i (answers {r = r} t u a) h =
       rw (a .log l, a .reaction) (enter (Replied r ∷ l) u (answer p r (a .item) t u l (a .stands) (a .takes) h))
 

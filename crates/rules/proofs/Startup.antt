@@ -8,13 +8,13 @@ use mathlib.Core.Option.{Option, some, none, Option·none-ne-some, Option·some-
 use mathlib.Core.Path.{_≡_, refl, sym, ap, _∙_}
 use Rattle.model.specs.declared.Reason.the-variants.{Startup}
 use Rattle.rules.specs.Book.{Book}
-use Rattle.rules.specs.Interaction.{Interaction, Done, Observe, Execute, Fallback, Record}
+use Rattle.rules.specs.Interaction.{Answer, Interaction, Done, Observe, Execute, Fallback, Record}
 use Rattle.rules.specs.Rules.{usedAxes}
 use Rattle.rules.specs.Protocol.{Call, Reply, FellBack, Input, Item, ItemFallback, Start, Phase, Starting, Gone, Idle, Waiting, bookIn, opening, begin, proceed, refusedStart, startFrom, startUnless, start, startReplied, called, replied, effect, apply, react}
-use Rattle.rules.specs.Log.{History, phaseAt, Took, Replied, Handed, Log, handed, arrived, extended, logOf, callOf, unlessCalled, startItems, startReplies}
+use Rattle.rules.specs.Log.{History, phaseAt, Took, Replied, Handed, Ended, Log, handed, arrived, extended, logOf, callOf, unlessCalled, startItems, startReplies}
 use Rattle.rules.specs.Claim.{SoundStart, StartedUp}
 use Rattle.rules.proofs.Soundness.{sound-start, start-sound}
-use Rattle.rules.proofs.Steps.{Stands, atObserve, atExecute, atFallback, atRecord, itemAt, handed-item, effective, start-effective, Step, stays, tries, begins, answers, step}
+use Rattle.rules.proofs.Steps.{Stands, atObserve, atExecute, atFallback, atRecord, eventAt, handed-event, effective, start-effective, Step, stays, tries, begins, answers, step}
 
 abbrev tryItems : List ℕ → List Item
 tryItems axes = map (λ axis. ItemFallback axis Startup) axes
@@ -72,6 +72,11 @@ module _ (s : Start) (l : Log) where
   unfolding startItems startReplies
   call-taken c u = record { sound = u .sound; items = u .items; replies = u .replies }
 
+  -- nor does its end
+  call-ended : (a : Answer) → StartedUp s l → StartedUp s (Ended a ∷ l)
+  unfolding startItems startReplies
+  call-ended a u = record { sound = u .sound; items = u .items; replies = u .replies }
+
   item-handed : (i : Item) → StartedUp s l → InCall l → StartedUp s (Handed i ∷ l)
   unfolding startItems startReplies unlessCalled
   item-handed i u n = record { sound = u .sound; items = rw (n .1) (append-nil _ ∙ u .items); replies = u .replies }
@@ -81,9 +86,9 @@ module _ (s : Start) (l : Log) where
   reply-taken r u n = record { sound = u .sound; items = u .items; replies = rw (n .1) (append-nil _ ∙ u .replies) }
 
   -- a call goes on to its next item or its end
-  proceeds : (t : Interaction) → StartedUp s l → InCall l → Progress s (itemAt t ++ l) (proceed t .phase)
-  unfolding proceed itemAt callOf
-  proceeds (Done b a) u n = (u, λ e. absurd (not-none l n e))
+  proceeds : (t : Interaction) → StartedUp s l → InCall l → Progress s (eventAt t ++ l) (proceed t .phase)
+  unfolding proceed eventAt callOf
+  proceeds (Done b a) u n = (call-ended a u, λ e. absurd (not-none l n e))
   proceeds (Observe axis b k) u n = (item-handed _ u n, n)
   proceeds (Execute c p b k) u n = (item-handed _ u n, n)
   proceeds (Fallback axis r b k) u n = (item-handed _ u n, n)
@@ -117,7 +122,7 @@ progress-step s l p i (tries own axis rest good ok) g =
     (rw (g .call) (one-more _ _ axis rest good ok (g .replies)))
     (g .call))
 progress-step s l p i (begins b c) g =
-    rw (effective (begin c b), handed-item (begin c b)) (proceeds s (Took c ∷ l) (begin c b) (call-taken s l c (g .0)) (c, refl))
+    rw (effective (begin c b), handed-event (begin c b)) (proceeds s (Took c ∷ l) (begin c b) (call-taken s l c (g .0)) (c, refl))
 progress-step s l p i (answers {r = r} t u a) g =
     let n = in-call s l t p (a .stands) g in
     rw (a .log l, a .reaction) (proceeds s (Replied r ∷ l) u (reply-taken s l r (n .0) (n .1)) (n .1))

@@ -1,13 +1,13 @@
 -- What holds of state, leases, flags and times in every book that a reading shows, and more of it between calls; and that each step on the
 -- book keeps it. Assumes nothing.
-use Prim.Native.Nat.{ℕ, zero, suc, _+_, _<_, _≤_}
+use Prim.Native.Nat.{ℕ, zero, suc, _<_, _≤_}
 use mathlib.Core.Bool.{Bool, true, false, cond, _||_, false≢true, true≢false}
 use mathlib.Core.List.{List, [], _∷_}
-use mathlib.Core.Logic.{_⊎_, inl, inr, _≢_}
+use mathlib.Core.Logic.{inl, inr, _≢_}
 use mathlib.Core.Option.{Option, some, none, Option·none-ne-some}
 use mathlib.Core.Path.{_≡_, refl, sym, ap, _∙_, subst}
 use native.Mathlib.Omega.{arith}
-use borrow.Author.Tests.{eqb-true, eqb-false, eq-eqb}
+use borrow.Author.Tests.{eqb-true, eq-eqb}
 use lib.Dec.{eqb}
 use lib.ListN.{length, length-set, getD, set, replicate}
 use Rattle.model.specs.declared.Capability.{Capability}
@@ -24,10 +24,11 @@ use Rattle.model.specs.Soundness.{axisUsed}
 use Rattle.rules.specs.Book.{Book, leaseAt, withLeases, withActive, withReceipts, withNextReceipt, withNextLease, withEpoch, withFlags, withStateAt, withLastTick, withState}
 use Rattle.rules.specs.Receipts.{top, bumpTo, bump, kept}
 use Rattle.rules.specs.Admission.{isArmed, isEstopped, isSome, axes}
-use Rattle.rules.specs.Rules.{select, usedAxes, bumpEpoch, refreshed, refreshState, cleared, tripped, meetsEstop, granted}
+use Rattle.rules.specs.Rules.{usedAxes, bumpEpoch, refreshed, refreshState, cleared, tripped, meetsEstop, granted}
 use Rattle.rules.specs.Protocol.{Start, opening}
 use Rattle.rules.specs.Admissible.{Mem}
 use Rattle.rules.specs.StateFacts.{LeaseStands, NoLease}
+use Rattle.rules.proofs.Axes.{low-axis, mem-used}
 use Rattle.rules.proofs.Keeps.{at-set, isReady, tripped-not-ready}
 use Rattle.rules.proofs.Counters.{bump-mono}
 
@@ -356,28 +357,6 @@ tidy-opening s = (
 
 -- ---- the used axes
 
-abbrev upFrom : ℕ → ℕ → List ℕ
-upFrom i zero = []
-upFrom i (suc n) = i ∷ upFrom (suc i) n
-
-low-mem : (n j i : ℕ) → j ≤ i → i < j + n → Mem i (upFrom j n)
-low-mem zero j i h k = absurd (omega arith)
-low-mem (suc n) j i h k = go (eqb i j) refl (low-mem n (suc j) i)
-  where
-    go : (t : Bool) → eqb i j ≡ t → (suc j ≤ i → i < suc j + n → Mem i (upFrom (suc j) n)) → (i ≡ j) ⊎ Mem i (upFrom (suc j) n)
-    go true e rest = inl (eqb-true i j e)
-    go false e rest = inr (rest (omega (arith, eqb-false i j e)) (omega arith))
-
-mem-select : (p : ℕ → Bool) (is : List ℕ) (i : ℕ) → p i ≡ true → Mem i is → Mem i (select p is)
-unfolding select
-mem-select p [] i e m = m
-mem-select p (j ∷ is) i e (inl q) = rw (← q, e) (inl refl)
-mem-select p (j ∷ is) i e (inr m) = go (p j) (mem-select p is i e m)
-  where
-    go : (t : Bool) → Mem i (select p is) → Mem i (cond t (j ∷ select p is) (select p is))
-    go true n = inr n
-    go false n = n
-
 inside : (ls : List (Option Lease)) (i : ℕ) (x : Lease) → getD ls i none ≡ some x → i < length ls
 inside [] i x e = absurd (Option·none-ne-some x e)
 inside (o ∷ ls) zero x e = omega arith
@@ -389,13 +368,11 @@ OnlyOn is b = (i : ℕ) (x : Lease) → leaseAt b i ≡ some x → Mem i is
 
 -- a lease stands on one of the eight axes
 pub on-axis : (s : Start) (b : Book) → BaseOf s b → OnlyOn axes b
-on-axis s b h i x e = low-mem 8 0 i (omega arith) (omega (arith, inside (b .leases) i x e, h .eight))
+on-axis s b h i x e = low-axis i (omega (arith, inside (b .leases) i x e, h .eight))
 
 -- and on a used one, so that fallbacks on these leave none
 pub only-used : (s : Start) (b : Book) → BaseOf s b → OnlyOn (usedAxes (b .capabilities)) b
-unfolding usedAxes
-only-used s b h i x e =
-    rw (h .capabilities) (mem-select (axisUsed (s .capabilities)) axes i (h .used i x e) (on-axis s b h i x e))
+only-used s b h i x e = rw (h .capabilities) (mem-used (s .capabilities) i (h .used i x e) (on-axis s b h i x e))
 
 pub only-cleared : (axis : ℕ) (is : List ℕ) (b : Book) → OnlyOn (axis ∷ is) b → OnlyOn is (cleared axis b)
 unfolding cleared bumpEpoch withEpoch withLeases withActive

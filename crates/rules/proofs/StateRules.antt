@@ -23,7 +23,7 @@ use Rattle.rules.specs.Interaction.{Answer, Interaction}
 use Rattle.rules.specs.Admission.{axes, isSome, isArmed, isStale}
 use Rattle.rules.specs.Rules.{usedAxes, bumpEpoch, recordReceipt, refreshState, cleared, fallback, tripped, fallbacks, trip, fallbackOrTrip, exhausted, watchdog, staleness, due, fallbackIf, expiries, supervise, tick}
 use Rattle.rules.specs.Protocol.{ItemObserve, ItemExecute, ItemFallback, ItemRecord, Start}
-use Rattle.rules.specs.Log.{Took, Replied, Handed, Log}
+use Rattle.rules.specs.Log.{Took, Replied, Handed, Ended, Log}
 use Rattle.rules.specs.StateFacts.{NoLease}
 use Rattle.rules.proofs.Safe.{Safe}
 use Rattle.rules.proofs.Keeps.{isReady, tripped-not-ready}
@@ -48,6 +48,7 @@ Newest (Handed (ItemObserve axis) ∷ l) = Unit
 Newest (Handed (ItemExecute c p) ∷ l) = Unit
 Newest (Handed (ItemFallback axis r) ∷ l) = Unit
 Newest (Handed (ItemRecord r) ∷ l) = NoClock (r .decision) (r .reason)
+Newest (Ended a ∷ l) = Unit
 
 abbrev pub Seen : Start → Log → Book → Type 0
 Seen s l b = Good s b × Newest l

@@ -11,7 +11,7 @@ use Rattle.model.specs.declared.Receipt.{Receipt}
 use Rattle.rules.specs.Book.{Book}
 use Rattle.rules.specs.Interaction.{Interaction, Done, Observe, Execute, Fallback, Record}
 use Rattle.rules.specs.Protocol.{Call, Reply, Observed, Executed, FellBack, Recorded, Reading, Input, Calls, Replies, Reads, Item, ItemObserve, ItemExecute, ItemFallback, ItemRecord, Start, Wait, OnObserve, OnExecute, OnFallback, OnRecord, Phase, Starting, Gone, Idle, Waiting, itemOf, bookIn, resume, proceed, startFrom, called, resumed, startReplied, replied, shown, effect, apply, react}
-use Rattle.rules.specs.Log.{Replied, Handed, Log, handed, tookEffect, arrived, extended, opened}
+use Rattle.rules.specs.Log.{Replied, Handed, Ended, Log, handed, tookEffect, arrived, extended, opened}
 use Rattle.rules.specs.Claim.{Takes, observed, executed, fellBack, recorded}
 
 -- the phase in which an interaction waits
@@ -21,21 +21,21 @@ pub data Stands : Interaction → Phase → Type 0 where
   atFallback : {axis : ℕ} {r : Reason} {b : Book} {k : Bool → Interaction} → Stands (Fallback axis r b k) (Waiting (OnFallback axis r b k))
   atRecord : {r : Receipt} {b : Book} {k : Interaction} → Stands (Record r b k) (Waiting (OnRecord r b k))
 
--- the item at which an interaction stands
-unfoldable pub itemAt : Interaction → Log
-itemAt (Done b a) = []
-itemAt (Observe axis b k) = Handed (ItemObserve axis) ∷ []
-itemAt (Execute c p b k) = Handed (ItemExecute c p) ∷ []
-itemAt (Fallback axis r b k) = Handed (ItemFallback axis r) ∷ []
-itemAt (Record r b k) = Handed (ItemRecord r) ∷ []
+-- the event at which an interaction stands: its item, or its end
+unfoldable pub eventAt : Interaction → Log
+eventAt (Done b a) = Ended a ∷ []
+eventAt (Observe axis b k) = Handed (ItemObserve axis) ∷ []
+eventAt (Execute c p b k) = Handed (ItemExecute c p) ∷ []
+eventAt (Fallback axis r b k) = Handed (ItemFallback axis r) ∷ []
+eventAt (Record r b k) = Handed (ItemRecord r) ∷ []
 
-pub handed-item : (t : Interaction) → handed (proceed t .output) ≡ itemAt t
-unfolding proceed handed itemAt
-handed-item (Done b a) = refl
-handed-item (Observe axis b k) = refl
-handed-item (Execute c p b k) = refl
-handed-item (Fallback axis r b k) = refl
-handed-item (Record r b k) = refl
+pub handed-event : (t : Interaction) → handed (proceed t .output) ≡ eventAt t
+unfolding proceed handed eventAt
+handed-event (Done b a) = refl
+handed-event (Observe axis b k) = refl
+handed-event (Execute c p b k) = refl
+handed-event (Fallback axis r b k) = refl
+handed-event (Record r b k) = refl
 
 pub effective : (t : Interaction) → tookEffect (proceed t .output) ≡ true
 unfolding proceed tookEffect
@@ -63,7 +63,7 @@ pub record Answered (p : Phase) (r : Reply) (t u : Interaction) : Type 0 where
   pub item : Item
   pub takes : Takes t r item u
   pub reaction : react p (Replies r) ≡ proceed u
-  pub log : (l : Log) → extended (Replies r) (react p (Replies r) .output) l ≡ itemAt u ++ (Replied r ∷ l)
+  pub log : (l : Log) → extended (Replies r) (react p (Replies r) .output) l ≡ eventAt u ++ (Replied r ∷ l)
 
 pub data Step : Phase → Input → Type 0 where
   stays : {p : Phase} {i : Input} → Stays p i → Step p i
@@ -73,10 +73,10 @@ pub data Step : Phase → Input → Type 0 where
 
 reply-step : (w : Wait) (r : Reply) → Step (Waiting w) (Replies r)
 unfolding react apply effect replied resumed resume itemOf handed tookEffect arrived extended opened
-reply-step (OnObserve axis b k) (Observed o) = answers (Observe axis b k) (k o) record { stands = atObserve; item = ItemObserve axis; takes = observed; reaction = refl; log = λ l. simp (handed-item, effective) }
-reply-step (OnExecute c p b k) (Executed ok) = answers (Execute c p b k) (k ok) record { stands = atExecute; item = ItemExecute c p; takes = executed; reaction = refl; log = λ l. simp (handed-item, effective) }
-reply-step (OnFallback axis r b k) (FellBack ok) = answers (Fallback axis r b k) (k ok) record { stands = atFallback; item = ItemFallback axis r; takes = fellBack; reaction = refl; log = λ l. simp (handed-item, effective) }
-reply-step (OnRecord r b k) Recorded = answers (Record r b k) k record { stands = atRecord; item = ItemRecord r; takes = recorded; reaction = refl; log = λ l. simp (handed-item, effective) }
+reply-step (OnObserve axis b k) (Observed o) = answers (Observe axis b k) (k o) record { stands = atObserve; item = ItemObserve axis; takes = observed; reaction = refl; log = λ l. simp (handed-event, effective) }
+reply-step (OnExecute c p b k) (Executed ok) = answers (Execute c p b k) (k ok) record { stands = atExecute; item = ItemExecute c p; takes = executed; reaction = refl; log = λ l. simp (handed-event, effective) }
+reply-step (OnFallback axis r b k) (FellBack ok) = answers (Fallback axis r b k) (k ok) record { stands = atFallback; item = ItemFallback axis r; takes = fellBack; reaction = refl; log = λ l. simp (handed-event, effective) }
+reply-step (OnRecord r b k) Recorded = answers (Record r b k) k record { stands = atRecord; item = ItemRecord r; takes = recorded; reaction = refl; log = λ l. simp (handed-event, effective) }
 reply-step (OnObserve axis b k) (Executed ok) = stays record { phase = refl; log = λ l. refl; book = λ b old. refl }
 reply-step (OnObserve axis b k) (FellBack ok) = stays record { phase = refl; log = λ l. refl; book = λ b old. refl }
 reply-step (OnObserve axis b k) Recorded = stays record { phase = refl; log = λ l. refl; book = λ b old. refl }

@@ -17,7 +17,7 @@ use Rattle.rules.specs.Protocol.{Call, EmergencyStop, PollEstop, Calls, 
 use Rattle.rules.specs.Log.{History, phaseAt, Log, logOf}
 use Rattle.rules.specs.StopFacts.{Unready, InEstop, Halted, Throughout, Unlifted, Stopped, BlocksDispatch, StopFacts}
 use Rattle.rules.proofs.Safe.{Safe, SafePhase, always}
-use Rattle.rules.proofs.Keeps.{keeps-fallen}
+use Rattle.rules.proofs.Keeps.{Shared, AnyReason, keeps-fallen}
 use Rattle.rules.proofs.StateBook.{Tidy, tidy-opening, OnlyOn, only-used, only-cleared, only-none}
 use Rattle.rules.proofs.StateRules.{Seen}
 use Rattle.rules.proofs.StateCalls.{End, end-call}
@@ -46,16 +46,24 @@ estop-trips x = refl
 abbrev Stopping : List ℕ → Log → Book → Type 0
 Stopping is l b = Waits InEstop l b × OnlyOn is b
 
+stopping : (is : List ℕ) → Shared AnyReason (Waits InEstop) (Stopping is)
+unfolding cleared bumpEpoch withEpoch withLeases withActive kept withNextReceipt withReceipts withState
+stopping is =
+    record {
+      waits = λ l b h. h .0;
+      replied = λ r l b h. ((tt, h .0 .1), h .1);
+      falls = λ axis reason l b any h. ((tt, h .0 .1), only-cleared axis is b (λ i x e. inr (h .1 i x e)));
+      records = λ r l b quiet h. ((tt, h .0 .1), h .1);
+      trips = λ reason l b h. ((h .0 .0, estop-lasts .trips reason (b .state) (h .0 .1)), h .1);
+    }
+
 module _ (D : Log → Book → Answer → Type 0) where
   stops-axis : (axis : ℕ) (is : List ℕ) (now : ℕ) (l : Log) (b : Book) (next : Bool → Book → Interaction) → Stopping (axis ∷ is) l b
       → ((ok : Bool) (l′ : Log) (b′ : Book) → Stopping is l′ b′ → Safe (Waits InEstop) D l′ (next ok b′))
       → Safe (Waits InEstop) D l (fallback axis Reason.Estop now b next)
-  unfolding cleared bumpEpoch withEpoch withLeases withActive kept withNextReceipt withReceipts withState
+  unfolding cleared bumpEpoch withEpoch withLeases withActive
   stops-axis axis is now l b next h f =
-      keeps-fallen (Waits InEstop) D (Stopping is) (λ l b k. k .0) (λ r l b k. ((tt, k .0 .1), k .1))
-      (λ axis reason l b k. ((tt, k .0 .1), only-cleared axis is b (λ i x e. inr (k .1 i x e)))) (λ r l b quiet k. ((tt, k .0 .1), k .1))
-      (λ reason l b k. ((k .0 .0, estop-lasts .trips reason (b .state) (k .0 .1)), k .1)) axis Reason.Estop now l b next
-      ((tt, h .0 .1), only-cleared axis is b (h .1)) f
+      keeps-fallen D (stopping is) axis Reason.Estop now l b next ((tt, h .0 .1), only-cleared axis is b (h .1)) f
 
   stops-axes : (is : List ℕ) (now : ℕ) (l : Log) (b : Book) (next : Book → Interaction) → Stopping is l b
       → ((l′ : Log) (b′ : Book) → Halted InEstop b′ → Safe (Waits InEstop) D l′ (next b′))

@@ -19,7 +19,7 @@ use Rattle.rules.specs.Admission.{Check, firstFailing, holdsOf, isEstopp
 use Rattle.rules.specs.Rules.{bumpEpoch, refreshed, refreshState, cleared, tripped, updateState, recovered, recoverLocal, grant, acquire, renewed, renew, canceled, cancel, admit, submit}
 use Rattle.rules.specs.Protocol.{Call, Tick, UpdateState, EmergencyStop, PollEstop, RecoverLocal, Acquire, Renew, Cancel, Submit, Reply, Input, Calls, Replies, Reads, Item, ItemObserve, ItemExecute, ItemFallback, ItemRecord, Hands, Answers, OnObserve, OnExecute, OnFallback, OnRecord, Phase, Starting, Gone, Idle, Waiting, waitBook, bookIn, Reaction, called, shown, effect, apply, begin, proceed, react}
 use Rattle.rules.specs.Lives.{outputsFrom, phaseFrom}
-use Rattle.rules.specs.Log.{Took, Replied, Handed, Log, handed, tookEffect, arrived, extended}
+use Rattle.rules.specs.Log.{Took, Replied, Handed, Ended, Log, handed, tookEffect, arrived, extended}
 use Rattle.rules.specs.Claim.{Takes, observed, executed, fellBack, recorded}
 use Rattle.rules.specs.StateFacts.{NoLease}
 use Rattle.rules.specs.StopFacts.{Unready, InEstop, Halted, Throughout, Rests, Lifted, Unlifted, Stopped, Blocked, NoneUntilSuccess, Unrecovered, StillBlocked, BlocksDispatch}
@@ -98,6 +98,7 @@ Quiet (Handed (ItemObserve axis) ∷ l) = ⊥
 Quiet (Handed (ItemExecute c ps) ∷ l) = ⊥
 Quiet (Handed (ItemFallback axis r) ∷ l) = Unit
 Quiet (Handed (ItemRecord r) ∷ l) = Unit
+Quiet (Ended a ∷ l) = Unit
 
 abbrev pub Waits : (RuntimeState → Type 0) → Log → Book → Type 0
 Waits N l b = Quiet l × N (b .state)

@@ -1,7 +1,7 @@
 -- What a tick takes away, for every reply (proofs.rs, `tick_revokes_expired_or_unsupervised_authority`). Assumes nothing.
 use Prim.Native.Nat.{ℕ, _-_, _<_, _≤_}
 use mathlib.Core.Bool.{Bool, true, false}
-use mathlib.Core.List.{List, [], _∷_, reverse, reverseAux}
+use mathlib.Core.List.{List, [], _∷_, reverse}
 use mathlib.Core.Logic.{_⊎_, inl, inr, _≢_}
 use mathlib.Core.Option.{Option, some, none}
 use mathlib.Core.Path.{_≡_, refl, sym, ap, _∙_}
@@ -19,8 +19,9 @@ use Rattle.rules.specs.Protocol.{Reply, Item, ItemFallback, Start}
 use Rattle.rules.specs.Log.{Event, Handed, Log}
 use Rattle.rules.specs.Claim.{Runs}
 use Rattle.rules.specs.StateFacts.{NoLease, Revoked}
+use Rattle.rules.proofs.Axes.{mem-reverse}
 use Rattle.rules.proofs.Safe.{Safe}
-use Rattle.rules.proofs.Keeps.{at-set, isReady, Guarded, Settled, Unexpired, keeps-tick}
+use Rattle.rules.proofs.Keeps.{at-set, Shared, AnyReason, isReady, Guarded, Settled, Unexpired, keeps-tick}
 use Rattle.rules.proofs.Outcomes.{safe-both, safe-end}
 use Rattle.rules.proofs.StateBook.{Calm, Tidy, not-both, on-axis, armed-by, unarmed}
 use Rattle.rules.proofs.StateRules.{Seen, Ticked, Supervised, after-tick}
@@ -59,18 +60,22 @@ Nothing l b = Unit
 abbrev Remains : ℕ → Book → Log → Book → Answer → Type 0
 Remains now before l b a = Stood before l b × Guarded (Settled now (reverse axes)) b
 
+room : (before : Book) → Shared AnyReason Nothing (Room before)
+unfolding cleared bumpEpoch withEpoch withLeases withActive kept withNextReceipt withReceipts withState
+room before =
+    record {
+      waits = λ l b h. tt;
+      replied = λ r l b h. (h .0, longer _ before l b (h .1));
+      falls = λ axis reason l b any h. (h .0, stood-fallen before axis reason l b (h .1));
+      records = λ r l b quiet h. (h .0, longer _ before l b (h .1));
+      trips = λ reason l b h. h;
+    }
+
 remains : (now : ℕ) (b : Book) → b .nextLease ≤ top → Safe Nothing (Remains now b) [] (tick now b (λ b′. Done b′ Returned))
-unfolding cleared bumpEpoch withEpoch withLeases withActive kept withNextReceipt withReceipts withState withLastTick
+unfolding withState withLastTick
 remains now b fits =
-    keeps-tick Nothing (Remains now b) (Room b)
-    (λ l b′ h. tt)
-    (λ r l b′ h. (h .0, longer _ b l b′ (h .1)))
-    (λ axis reason l b′ h. (h .0, stood-fallen b axis reason l b′ (h .1)))
-    (λ r l b′ quiet h. (h .0, longer _ b l b′ (h .1)))
-    (λ x l b′ h. h)
-    (λ time l b′ h. h)
-    (λ l b′ h. h .0)
-    now [] b _ (fits, λ i. inl refl) (λ l b′ h settled. (h .1, settled))
+    keeps-tick (Remains now b) (room b) (λ reason q. tt) (λ x l b′ h. h) (λ l b′ h. h .0) now (λ l b′ h. h) _
+    (λ l b′ h settled. (h .1, settled)) tt [] b (fits, λ i. inl refl)
 
 -- and as the state's facts go through it
 abbrev Leaves : Start → ℕ → Book → Log → Book → Answer → Type 0
@@ -80,13 +85,6 @@ leaves : (s : Start) (now : ℕ) (b : Book) → Tidy s b → Safe (Seen s) (Leav
 leaves s now b h = after-tick s (Leaves s now b) now [] b _ h (λ l b′ h′ k. (h′, k))
 
 -- ---- what that says of a lease
-
-mem-reverse : (i : ℕ) (is d : List ℕ) → Mem i is ⊎ Mem i d → Mem i (reverseAux is d)
-mem-reverse i [] d (inl m) = absurd m
-mem-reverse i [] d (inr m) = m
-mem-reverse i (j ∷ is) d (inl (inl e)) = mem-reverse i is (j ∷ d) (inr (inl e))
-mem-reverse i (j ∷ is) d (inl (inr m)) = mem-reverse i is (j ∷ d) (inl m)
-mem-reverse i (j ∷ is) d (inr m) = mem-reverse i is (j ∷ d) (inr (inr m))
 
 stood-before : (i : ℕ) (was : Option Lease) (l : Log) (o : Option Lease) (x : Lease) → Axis i was l o → o ≡ some x → was ≡ some x
 stood-before i was l o x (inl q) e = sym q ∙ e

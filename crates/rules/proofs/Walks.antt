@@ -17,7 +17,7 @@ use Rattle.rules.specs.Rules.{usedAxes, bumpEpoch, recordReceipt, refres
 use Rattle.rules.specs.Protocol.{Reply, Recorded, ItemFallback, ItemRecord}
 use Rattle.rules.specs.Log.{Replied, Handed, Log}
 use Rattle.rules.proofs.Safe.{Safe}
-use Rattle.rules.proofs.Keeps.{keeps-fallback, keeps-trip, keeps-fallback-or-trip}
+use Rattle.rules.proofs.Keeps.{Shared, AnyReason, keeps-fallback, keeps-trip, keeps-fallback-or-trip}
 
 -- any answer but a success
 abbrev pub Other : Answer → Type 0
@@ -48,6 +48,16 @@ module _ (W : Log → Book → Type 0) (D : Log → Book → Answer → Type 0) 
   abbrev Next : (Book → Interaction) → Type 0
   Next next = (l : Log) (b : Book) → J l b → Safe W D l (next b)
 
+  shared : Shared AnyReason W J
+  shared =
+      record {
+        waits = k .waits;
+        replied = k .replied;
+        falls = λ axis reason l b any h. k .falls axis reason l b h;
+        records = λ r l b quiet h. k .records _ l b h;
+        trips = k .trips;
+      }
+
   -- any receipt, a grant's too
   pub walk-record : (r : Receipt) (l : Log) (b : Book) (next : Receipt → Book → Interaction) → J l b → ((r′ : Receipt) → Next (next r′))
       → Safe W D l (recordReceipt r b next)
@@ -58,17 +68,16 @@ module _ (W : Log → Book → Type 0) (D : Log → Book → Answer → Type 0) 
 
   pub walk-fallback : (axis : ℕ) (reason : Reason) (now : ℕ) (l : Log) (b : Book) (next : Bool → Book → Interaction) → J l b
       → ((ok : Bool) → Next (next ok)) → Safe W D l (fallback axis reason now b next)
-  walk-fallback = keeps-fallback W D J (k .waits) (k .replied) (k .falls) (λ r l b quiet h. k .records _ l b h) (k .trips)
+  walk-fallback axis reason now l b next h f = keeps-fallback D shared axis reason now l b next tt h f
 
   pub walk-trip : (reason : Reason) (now : ℕ) (l : Log) (b : Book) (next : Book → Interaction) → J l b → Next next
       → Safe W D l (trip reason now b next)
-  walk-trip = keeps-trip W D J (k .waits) (k .replied) (k .falls) (λ r l b quiet h. k .records _ l b h) (k .trips)
+  walk-trip reason now l b next h f = keeps-trip D shared reason now next tt f l b h
 
   fall-or-trip : (axis : ℕ) (reason : Reason) (now : ℕ) (l : Log) (b : Book) (next : Book → Interaction) → J l b → Next next
       → Safe W D l (fallbackOrTrip axis reason now b next)
   fall-or-trip axis reason now l b next h f =
-      keeps-fallback-or-trip W D J (k .waits) (k .replied) (k .falls) (λ r l b quiet h. k .records _ l b h) (k .trips) axis reason now l b next
-      (k .falls axis reason l b h) f
+      keeps-fallback-or-trip D shared axis reason now l b next tt (k .falls axis reason l b h) f
 
   trip-if : (t : Bool) (reason : Reason) (now : ℕ) (l : Log) (b : Book) (next : Book → Interaction) → J l b → Next next
       → Safe W D l (cond t (trip reason now b next) (next b))

@@ -1,7 +1,7 @@
 -- Demand 3: what holds of every list of lives whose boot numbers differ. Each part quotes the customer's sentence (00, demand 3).
 -- A cut needs no case of its own: a life that is cut is one whose inputs end while a reply is awaited, and every part speaks of every
 -- history. The parts that quantify over every start and history say more than one about the lives in hand would.
-use Prim.Native.Nat.{ℕ, _+_, _<_, _≤_, _^_}
+use Prim.Native.Nat.{ℕ, _+_, _<_, _≤_, _^_, min}
 use mathlib.Core.Bool.{Bool, true, false}
 use mathlib.Core.List.{List, [], _∷_, _++_, map}
 use mathlib.Core.Logic.{_⊎_, _≢_, _↔_}
@@ -28,7 +28,7 @@ use Rattle.rules.specs.Admissible.{Mem, Admissible}
 use Rattle.rules.specs.Rules.{usedAxes, tick, replayCapacity}
 use Rattle.rules.specs.Protocol.{Submit, Reply, Observed, Executed, FellBack, Recorded, Item, ItemObserve, ItemExecute, ItemFallback, ItemRecord, Hands, Start, Idle, bookIn, opening}
 use Rattle.rules.specs.Lives.{Life}
-use Rattle.rules.specs.Log.{History, phaseAt, outputAt, Log, Handed, logOf, bookBefore, callOf, Exchange, current, startItems, startReplies, executedIn, nextNumber, receiptsOf, observing, Admitted, admissions, entryOf, highest, isGrant, Tenancy, live, leastEpoch, mostEpoch}
+use Rattle.rules.specs.Log.{History, phaseAt, outputAt, Log, Handed, logOf, bookBefore, callOf, Exchange, current, startItems, startReplies, executedIn, nextNumber, receiptsOf, observing, Admitted, admissions, entryOf, highest, isGrant, Tenancy, live, seenRaise, flagsOf, bumps}
 
 -- no element stands twice
 abbrev pub Distinct : {A : Type 0} → List A → Type 0
@@ -138,7 +138,7 @@ pub record Name : Type 0 where
 abbrev pub nameOf : Replay → Name
 nameOf e = record { owner = e .owner; action = e .«action_id» }
 
-pub record BookFacts (l : Log) (b : Book) : Type 0 where
+pub record BookFacts (s : Start) (l : Log) (b : Book) : Type 0 where
   -- a lease stands exactly while it is live
   pub standing : (axis : ℕ) (x : Lease) → leaseAt b axis ≡ some x → live axis l ≡ some (tenancyIn x)
   pub ended : (axis : ℕ) → leaseAt b axis ≡ none → live axis l ≡ none
@@ -153,9 +153,11 @@ pub record BookFacts (l : Log) (b : Book) : Type 0 where
   pub rising : b .nextReceipt < top → Rising (b .nextReceipt) (b .receipts)
   -- no two replay entries have the same owner and action id
   pub apart : Distinct (map nameOf (b .replay))
-  -- the epoch counts fallbacks and grants, and at most one for each update of the flags
-  pub least : leastEpoch l ≤ b .epoch
-  pub most : b .epoch ≤ mostEpoch l
+  -- the flags, and the raise number that a poll is compared with
+  pub flags : b .flags ≡ flagsOf s l
+  pub seen : b .estopSeen ≡ seenRaise l
+  -- the epoch counts the fallbacks of calls, the grants and the new flags, held at the top
+  pub epoch : b .epoch ≡ min top (1 + bumps s l)
 
 -- a start ----------------------------------------------------------------------------------------------------------------
 
@@ -215,4 +217,4 @@ pub record Claim (lives : List Life) : Type 0 where
   pub records : (s : Start) (h : History) (r : Receipt) → outputAt s h ≡ Hands (ItemRecord r)
       → (l : Log) × (logOf s h ≡ Handed (ItemRecord r) ∷ l) × Recording l r
   -- the book keeps what the log says
-  pub book-facts : (s : Start) (h : History) (b : Book) → bookIn (phaseAt s h) ≡ some b → BookFacts (logOf s h) b
+  pub book-facts : (s : Start) (h : History) (b : Book) → bookIn (phaseAt s h) ≡ some b → BookFacts s (logOf s h) b

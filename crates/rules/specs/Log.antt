@@ -1,9 +1,10 @@
 -- What the history of a life says about it, from its inputs and outputs alone. Histories and logs are newest first, so that each
 -- definition goes by the past alone, and a life that is cut is a shorter history.
 use Prim.Native.Nat.{ℕ, _+_, max}
-use mathlib.Core.Bool.{Bool, true, false, cond, _&&_}
+use mathlib.Core.Bool.{Bool, true, false, cond, not, _&&_, _||_}
 use mathlib.Core.List.{List, [], _∷_, _++_, map, reverse}
 use mathlib.Core.Option.{Option, some, none}
+use lib.Bits.{bitOr}
 use lib.Dec.{eqb}
 use Rattle.model.specs.declared.Action.{Action}
 use Rattle.model.specs.declared.Bounds.{Bounds}
@@ -11,11 +12,14 @@ use Rattle.model.specs.declared.Decision.{Decision}
 use Rattle.model.specs.declared.Decision.the-variants as Decision
 use Rattle.model.specs.declared.Receipt.{Receipt}
 use Rattle.model.specs.declared.Replay.{Replay}
+use Rattle.model.specs.declared.Reason.{Reason}
 use Rattle.model.specs.declared.Reason.the-variants as Reason
 use Rattle.model.specs.declared.Submission.{Submission}
 use Rattle.model.specs.Reasons.{number}
 use Rattle.rules.specs.Book.{Book}
 use Rattle.rules.specs.Receipts.{bump, receiptCapacity, keep}
+use Rattle.rules.specs.Interaction.{Answer}
+use Rattle.rules.specs.Admission.{isSome}
 use Rattle.rules.specs.Protocol.{Call, Tick, UpdateState, EmergencyStop, PollEstop, RecoverLocal, Acquire, Renew, Cancel, Submit, Reply, Input, Calls, Replies, Reads, Item, ItemObserve, ItemExecute, ItemFallback, ItemRecord, Output, Started, StartRefused, Hands, Answers, Reminds, Refuses, Shows, NoRuntime, Start, Phase, bookIn, start, react}
 use Rattle.rules.specs.Lives.{Life}
 
@@ -38,16 +42,17 @@ pub data Event : Type 0 where
   Took : Call → Event  -- a call was taken
   Replied : Reply → Event  -- a reply took effect
   Handed : Item → Event  -- an item was handed out
+  Ended : Answer → Event  -- a call ended with its answer
 
 abbrev pub Log : Type 0
 Log = List Event
 
--- the item that an output hands out; a reminder hands out none
+-- the item or the answer that an output hands out; a reminder hands out none
 unfoldable pub handed : Output → Log
 handed Started = []
 handed (StartRefused n) = []
 handed (Hands item) = Handed item ∷ []
-handed (Answers a) = []
+handed (Answers a) = Ended a ∷ []
 handed (Reminds n item) = []
 handed (Refuses n) = []
 handed (Shows v) = []
@@ -94,6 +99,7 @@ callOf [] = none
 callOf (Took c ∷ l) = some c
 callOf (Replied r ∷ l) = callOf l
 callOf (Handed i ∷ l) = callOf l
+callOf (Ended a ∷ l) = callOf l
 
 -- the call in hand, and since it was taken, oldest first: the replies that took effect, and the items handed out
 pub record Exchange : Type 0 where
@@ -114,6 +120,7 @@ current [] = none
 current (Took c ∷ l) = some (record { call = c; replies = []; items = [] })
 current (Replied r ∷ l) = withReply r (current l)
 current (Handed i ∷ l) = withItem i (current l)
+current (Ended a ∷ l) = current l
 
 -- before the first call: the items that the start handed out, and the replies to them, oldest first
 unfoldable pub unlessCalled : {A : Type 0} → Option Call → List A → List A
@@ -125,12 +132,14 @@ startItems [] = []
 startItems (Took c ∷ l) = startItems l
 startItems (Replied r ∷ l) = startItems l
 startItems (Handed i ∷ l) = startItems l ++ unlessCalled (callOf l) (i ∷ [])
+startItems (Ended a ∷ l) = startItems l
 
 unfoldable pub startReplies : Log → List Reply
 startReplies [] = []
 startReplies (Took c ∷ l) = startReplies l
 startReplies (Replied r ∷ l) = startReplies l ++ unlessCalled (callOf l) (r ∷ [])
 startReplies (Handed i ∷ l) = startReplies l
+startReplies (Ended a ∷ l) = startReplies l
 
 -- orders ---------------------------------------------------------------------------------------------------------------
 
@@ -158,6 +167,7 @@ executed [] = []
 executed (Took c ∷ l) = executed l
 executed (Replied r ∷ l) = executed l
 executed (Handed i ∷ l) = reaching i (callOf l) ++ executed l
+executed (Ended a ∷ l) = executed l
 
 -- the number that the next receipt has: one more for each record item, held at the top
 unfoldable pub counted : Item → ℕ → ℕ
@@ -171,6 +181,7 @@ nextNumber [] = 1
 nextNumber (Took c ∷ l) = nextNumber l
 nextNumber (Replied r ∷ l) = nextNumber l
 nextNumber (Handed i ∷ l) = counted i (nextNumber l)
+nextNumber (Ended a ∷ l) = nextNumber l
 
 -- the receipts kept: those of the record items, at most 64, oldest first
 unfoldable pub keptAfter : Item → List Receipt → List Receipt
@@ -184,6 +195,7 @@ receiptsOf [] = []
 receiptsOf (Took c ∷ l) = receiptsOf l
 receiptsOf (Replied r ∷ l) = receiptsOf l
 receiptsOf (Handed i ∷ l) = keptAfter i (receiptsOf l)
+receiptsOf (Ended a ∷ l) = receiptsOf l
 
 -- whether the call in hand has observed
 unfoldable pub observing : Log → Bool
@@ -194,6 +206,7 @@ observing (Handed (ItemObserve axis) ∷ l) = true
 observing (Handed (ItemExecute capability parameters) ∷ l) = observing l
 observing (Handed (ItemFallback axis reason) ∷ l) = observing l
 observing (Handed (ItemRecord r) ∷ l) = observing l
+observing (Ended a ∷ l) = observing l
 
 -- an admitted order: the submission, and the number of the receipt that consumes its id
 pub record Admitted : Type 0 where
@@ -215,6 +228,7 @@ admissions [] = []
 admissions (Took c ∷ l) = admissions l
 admissions (Replied r ∷ l) = admissions l
 admissions (Handed i ∷ l) = admitting i (observing l) (callOf l) (nextNumber l) ++ admissions l
+admissions (Ended a ∷ l) = admissions l
 
 -- the entry of the replay ring that an admitted order has
 abbrev pub entryOf : Admitted → Replay
@@ -295,45 +309,108 @@ live axis [] = none
 live axis (Took c ∷ l) = live axis l
 live axis (Replied r ∷ l) = live axis l
 live axis (Handed i ∷ l) = holding axis i (callOf l) (live axis l)
+live axis (Ended a ∷ l) = live axis l
+
+-- flags ----------------------------------------------------------------------------------------------------------------
+
+-- the raise number of the last poll, 0 before the first
+unfoldable pub seenRaise : Log → ℕ
+seenRaise [] = 0
+seenRaise (Took (Tick now) ∷ l) = seenRaise l
+seenRaise (Took (UpdateState flags now) ∷ l) = seenRaise l
+seenRaise (Took (EmergencyStop now) ∷ l) = seenRaise l
+seenRaise (Took (PollEstop raised now) ∷ l) = raised
+seenRaise (Took (RecoverLocal now) ∷ l) = seenRaise l
+seenRaise (Took (Acquire r now) ∷ l) = seenRaise l
+seenRaise (Took (Renew r) ∷ l) = seenRaise l
+seenRaise (Took (Cancel owner id now) ∷ l) = seenRaise l
+seenRaise (Took (Submit s) ∷ l) = seenRaise l
+seenRaise (Replied r ∷ l) = seenRaise l
+seenRaise (Handed i ∷ l) = seenRaise l
+seenRaise (Ended a ∷ l) = seenRaise l
+
+-- an emergency stop, or a poll whose raise number differs from the one last seen
+unfoldable pub stops : Event → Log → Bool
+stops (Took (Tick now)) l = false
+stops (Took (UpdateState flags now)) l = false
+stops (Took (EmergencyStop now)) l = true
+stops (Took (PollEstop raised now)) l = not (eqb raised (seenRaise l))
+stops (Took (RecoverLocal now)) l = false
+stops (Took (Acquire r now)) l = false
+stops (Took (Renew r)) l = false
+stops (Took (Cancel owner id now)) l = false
+stops (Took (Submit s)) l = false
+stops (Replied r) l = false
+stops (Handed i) l = false
+stops (Ended a) l = false
+
+-- a fallback for this reason
+unfoldable pub fallsFor : Reason → Item → Bool
+fallsFor reason (ItemObserve axis) = false
+fallsFor reason (ItemExecute capability parameters) = false
+fallsFor reason (ItemFallback axis r) = eqb (number r) (number reason)
+fallsFor reason (ItemRecord r) = false
+
+-- the call in hand fell back for Clock: its time is before the last tick (a trip falls back at least once, since a start asks for an axis)
+unfoldable pub clockTripped : Log → Bool
+clockTripped [] = false
+clockTripped (Took c ∷ l) = false
+clockTripped (Replied r ∷ l) = clockTripped l
+clockTripped (Handed i ∷ l) = fallsFor Reason.Clock i || clockTripped l
+clockTripped (Ended a ∷ l) = clockTripped l
+
+-- From this event on an update in hand is in force. 01: "tick; return if now is before last tick; .. an estop bit trips 11; else active
+-- orders that flags forbid fall back with 5". The tick falls back for other reasons than these two: a fallback for one of them shows
+-- that the flags were set, and so does the call's end unless it returned at once.
+unfoldable pub inForce : Event → Log → Bool
+inForce (Took c) l = false
+inForce (Replied r) l = false
+inForce (Handed i) l = fallsFor Reason.Estop i || fallsFor Reason.Precondition i
+inForce (Ended a) l = not (clockTripped l)
+
+-- the flags of the update in hand in place of these; another call has none
+unfoldable pub updated : Option Call → ℕ → ℕ
+updated none n = n
+updated (some (Tick now)) n = n
+updated (some (UpdateState flags now)) n = flags
+updated (some (EmergencyStop now)) n = n
+updated (some (PollEstop raised now)) n = n
+updated (some (RecoverLocal now)) n = n
+updated (some (Acquire r now)) n = n
+updated (some (Renew r)) n = n
+updated (some (Cancel owner id now)) n = n
+updated (some (Submit s)) n = n
+
+-- the flags: those of the start, with the stop mask after a stop, replaced where an update comes into force
+unfoldable pub flagsOf : Start → Log → ℕ
+flagsOf s [] = s .flags
+flagsOf s (e ∷ l) =
+    cond (stops e l) (bitOr (flagsOf s l) (s .config .«estop_mask»))
+    (cond (inForce e l) (updated (callOf l) (flagsOf s l)) (flagsOf s l))
 
 -- the epoch ------------------------------------------------------------------------------------------------------------
 
--- the epoch after an item: one more for a fallback of a call and for a grant, held at the top; a startup fallback adds none
-unfoldable pub afterFallback : Option Call → ℕ → ℕ
-afterFallback none n = n
-afterFallback (some c) n = bump n
+-- an update comes into force with other flags; those of a stop are set "without bumping for that"
+abbrev pub newFlagsAt : Start → Event → Log → Bool
+newFlagsAt s e l = inForce e l && not (eqb (updated (callOf l) (flagsOf s l)) (flagsOf s l))
 
-unfoldable pub epochAfter : Item → Option Call → ℕ → ℕ
-epochAfter (ItemObserve axis) c n = n
-epochAfter (ItemExecute capability parameters) c n = n
-epochAfter (ItemFallback axis reason) c n = afterFallback c n
-epochAfter (ItemRecord r) c n = cond (isGrant r) (bump n) n
+-- a fallback of a call (those of the start come before any), or a grant
+unfoldable pub bumpsAt : Event → Log → Bool
+bumpsAt (Took c) l = false
+bumpsAt (Replied r) l = false
+bumpsAt (Handed (ItemObserve axis)) l = false
+bumpsAt (Handed (ItemExecute capability parameters)) l = false
+bumpsAt (Handed (ItemFallback axis reason)) l = isSome (callOf l)
+bumpsAt (Handed (ItemRecord r)) l = isGrant r
+bumpsAt (Ended a) l = false
 
--- the epoch if no update of the flags changed them
-unfoldable pub leastEpoch : Log → ℕ
-leastEpoch [] = 1
-leastEpoch (Took c ∷ l) = leastEpoch l
-leastEpoch (Replied r ∷ l) = leastEpoch l
-leastEpoch (Handed i ∷ l) = epochAfter i (callOf l) (leastEpoch l)
+abbrev pub oneMoreIf : Bool → ℕ → ℕ
+oneMoreIf t n = cond t (n + 1) n
 
--- an update of the flags adds at most one
-unfoldable pub epochTaken : Call → ℕ → ℕ
-epochTaken (Tick now) n = n
-epochTaken (UpdateState flags now) n = bump n
-epochTaken (EmergencyStop now) n = n
-epochTaken (PollEstop raised now) n = n
-epochTaken (RecoverLocal now) n = n
-epochTaken (Acquire r now) n = n
-epochTaken (Renew r) n = n
-epochTaken (Cancel owner id now) n = n
-epochTaken (Submit s) n = n
-
--- the epoch if every update of the flags changed them
-unfoldable pub mostEpoch : Log → ℕ
-mostEpoch [] = 1
-mostEpoch (Took c ∷ l) = epochTaken c (mostEpoch l)
-mostEpoch (Replied r ∷ l) = mostEpoch l
-mostEpoch (Handed i ∷ l) = epochAfter i (callOf l) (mostEpoch l)
+-- how many fallbacks of calls, grants and new flags there were
+unfoldable pub bumps : Start → Log → ℕ
+bumps s [] = 0
+bumps s (e ∷ l) = oneMoreIf (bumpsAt e l) (oneMoreIf (newFlagsAt s e l) (bumps s l))
 
 -- lives ----------------------------------------------------------------------------------------------------------------
 
