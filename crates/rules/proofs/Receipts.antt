@@ -1,8 +1,8 @@
--- Keeping one receipt more keeps their numbers rising. Assumes nothing.
+-- Keeping one receipt more keeps their numbers rising; and a log's next events keep at most one more. Assumes nothing.
 use Prim.Native.Nat.{ℕ, _+_, _≤_}
 use mathlib.Core.Bool.{Bool, true, false, cond}
 use mathlib.Core.List.{List, [], _∷_, _++_}
-use mathlib.Core.Logic.{inr}
+use mathlib.Core.Logic.{inl, inr}
 use mathlib.Core.Path.{_≡_, refl}
 use native.Mathlib.Omega.{arith}
 use lib.Dec.{ltb}
@@ -10,7 +10,10 @@ use lib.ListN.{length, drop}
 use Rattle.model.specs.declared.Receipt.{Receipt}
 use Rattle.model.specs.Lists.{any}
 use Rattle.rules.specs.Receipts.{rejected, dropFirstRejected, evict, receiptCapacity, keep}
+use Rattle.rules.specs.Protocol.{Input, Calls, Replies, Reads, ItemObserve, ItemExecute, ItemFallback, ItemRecord, Output, Started, StartRefused, Hands, Answers, Reminds, Refuses, Shows, NoRuntime}
+use Rattle.rules.specs.Log.{Event, Took, Replied, Log, handed, tookEffect, arrived, extended, keptAfter, receiptsOf}
 use Rattle.rules.specs.Claim.{Between, Rising}
+use Rattle.rules.specs.StateFacts.{KeepsOne}
 
 between-from : (m k n : ℕ) (rs : List Receipt) → m ≤ k → Between k n rs → Between m n rs
 between-from m k n [] h b = tt
@@ -52,3 +55,29 @@ rising-keep n rs r e h = go (ltb (length rs) receiptCapacity)
     go : (t : Bool) → Rising (n + 1) (cond t rs (evict rs) ++ (r ∷ []))
     go true = snoc rs (h .order)
     go false = snoc (evict rs) (between-evict 0 n rs (h .order))
+
+-- ---- what one input adds to the log
+
+if-logged : (e : Event) (l : Log) (t : Bool) → receiptsOf (e ∷ l) ≡ receiptsOf l → receiptsOf (cond t (e ∷ []) [] ++ l) ≡ receiptsOf l
+if-logged e l true same = same
+if-logged e l false same = refl
+
+arrived-none : (i : Input) (out : Output) (l : Log) → receiptsOf (arrived i out ++ l) ≡ receiptsOf l
+unfolding arrived receiptsOf
+arrived-none (Calls c) out l = if-logged (Took c) l (tookEffect out) refl
+arrived-none (Replies r) out l = if-logged (Replied r) l (tookEffect out) refl
+arrived-none (Reads q) out l = refl
+
+pub one-more : (i : Input) (out : Output) (l : Log) → KeepsOne out (receiptsOf l) (receiptsOf (extended i out l))
+unfolding extended handed receiptsOf keptAfter
+one-more i (Hands (ItemRecord r)) l = inr (r, refl, rw (arrived-none i (Hands (ItemRecord r)) l))
+one-more i (Hands (ItemObserve axis)) l = inl (arrived-none i _ l)
+one-more i (Hands (ItemExecute c p)) l = inl (arrived-none i _ l)
+one-more i (Hands (ItemFallback axis reason)) l = inl (arrived-none i _ l)
+one-more i Started l = inl (arrived-none i _ l)
+one-more i (StartRefused n) l = inl (arrived-none i _ l)
+one-more i (Answers a) l = inl (arrived-none i _ l)
+one-more i (Reminds n item) l = inl (arrived-none i _ l)
+one-more i (Refuses n) l = inl (arrived-none i _ l)
+one-more i (Shows v) l = inl (arrived-none i _ l)
+one-more i NoRuntime l = inl (arrived-none i _ l)

@@ -1,6 +1,7 @@
 -- The facts about the state, after every history: read off what every call keeps. Assumes nothing.
 use Prim.Native.Nat.{ℕ, _≤_}
 use mathlib.Core.Bool.{true, false}
+use mathlib.Core.List.{_∷_}
 use mathlib.Core.Logic.{inl, inr, _≢_}
 use mathlib.Core.Option.{Option, some, none, Option·none-ne-some, Option·some-injective}
 use mathlib.Core.Path.{_≡_, refl, subst}
@@ -11,11 +12,13 @@ use Rattle.model.specs.declared.Receipt.{Receipt}
 use Rattle.model.specs.Soundness.{axisUsed}
 use Rattle.rules.specs.Book.{Book, leaseAt}
 use Rattle.rules.specs.Rules.{exhausted}
-use Rattle.rules.specs.Protocol.{ItemFallback, ItemRecord, Hands, Start, Phase, Starting, Gone, Idle, Waiting, bookIn}
+use Rattle.rules.specs.Protocol.{Input, ItemFallback, ItemRecord, Hands, Start, Phase, Starting, Gone, Idle, Waiting, bookIn, react}
 use Rattle.rules.specs.Log.{History, phaseAt, outputAt, Log, logOf}
-use Rattle.rules.specs.StateFacts.{StateFacts}
+use Rattle.rules.specs.StateFacts.{KeepsOne, StateFacts}
 use Rattle.rules.proofs.Basics.{neither}
+use Rattle.rules.proofs.Receipts.{one-more}
 use Rattle.rules.proofs.Safe.{SafePhase, at-wait, always}
+use Rattle.rules.proofs.Once.{book-facts}
 use Rattle.rules.proofs.Outcomes.{Brought, brings}
 use Rattle.rules.proofs.StateBook.{Good, Tidy, tidy-opening, armed-by, unarmed}
 use Rattle.rules.proofs.StateRules.{NoClock, Seen}
@@ -68,6 +71,12 @@ module _ (s : Start) where
       apart e = let z : _≡_ {A = ℕ} 0 1 = cc in omega arith
   no-record r (inr h) = h .2 .1
 
+  one-receipt : (h : History) (b : Book) → bookIn (phaseAt s h) ≡ some b → (i : Input) (b′ : Book) → bookIn (phaseAt s (i ∷ h)) ≡ some b′
+      → KeepsOne (outputAt s (i ∷ h)) (b .receipts) (b′ .receipts)
+  unfolding outputAt logOf
+  one-receipt h b e i b′ e′ =
+      rw (book-facts s h b e .receipts, book-facts s (i ∷ h) b′ e′ .receipts) (one-more i (react (phaseAt s h) i .output) (logOf s h))
+
   pub state-facts : (h : History) → StateFacts s h
   state-facts h =
       record {
@@ -81,4 +90,5 @@ module _ (s : Start) where
         never-clock-record = λ r e. no-record r (subst (Brought (Seen s) (End s)) e (brought h));
         never-clock-receipt = λ r e. subst (Brought (Seen s) (End s)) e (brought h) .2 .1;
         tick-revokes = λ b e now replies items b′ w. revokes s now b b′ (tidy-at h b e) w;
+        one-receipt = one-receipt h;
       }

@@ -1,9 +1,9 @@
 -- What holds of the state after every history, beside demand 3: when the runtime is Armed, when a bit of the stop mask may stand in the
--- flags, how stamp and last tick lie, that 18 is never a call's answer, and what a tick takes away.
+-- flags, how stamp and last tick lie, that 18 is never a call's answer, what a tick takes away, and what a step keeps.
 use Prim.Native.Nat.{ℕ, _-_, _<_, _≤_}
 use mathlib.Core.Bool.{true, false}
-use mathlib.Core.List.{List}
-use mathlib.Core.Logic.{_≢_, _↔_}
+use mathlib.Core.List.{List, _∷_}
+use mathlib.Core.Logic.{_⊎_, _≢_, _↔_}
 use mathlib.Core.Option.{some, none}
 use mathlib.Core.Path.{_≡_}
 use Rattle.model.specs.declared.Decision.the-variants as Decision
@@ -14,10 +14,11 @@ use Rattle.model.specs.declared.Receipt.{Receipt}
 use Rattle.model.specs.declared.RuntimeState.the-variants as State
 use Rattle.model.specs.Soundness.{axisUsed}
 use Rattle.rules.specs.Book.{Book, leaseAt}
+use Rattle.rules.specs.Receipts.{receiptCapacity, keep}
 use Rattle.rules.specs.Interaction.{Returned, Refused, Submitted, Done}
 use Rattle.rules.specs.Admissible.{Mem}
 use Rattle.rules.specs.Rules.{exhausted, tick, meetsEstop}
-use Rattle.rules.specs.Protocol.{Reply, Item, ItemFallback, ItemRecord, Hands, Answers, Start, Idle, bookIn}
+use Rattle.rules.specs.Protocol.{Reply, Input, Item, ItemFallback, ItemRecord, Output, Hands, Answers, Start, Idle, bookIn}
 use Rattle.rules.specs.Log.{History, phaseAt, outputAt}
 use Rattle.rules.specs.Claim.{Runs}
 
@@ -43,6 +44,11 @@ pub record Revoked (now : ℕ) (before : Book) (items : List Item) (after : Book
   pub watchdog : before .config .«watchdog_ms» < now - before .lastTick → NoLease after
   pub clock : now < before .lastTick → NoLease after
 
+-- the receipts kept are those of before, or the one that an output hands out is kept too
+abbrev pub KeepsOne : Output → List Receipt → List Receipt → Type 0
+KeepsOne out before after =
+    (after ≡ before) ⊎ ((r : Receipt) × (out ≡ Hands (ItemRecord r)) × (after ≡ keep receiptCapacity before r))
+
 -- after every history of every start
 pub record StateFacts (s : Start) (h : History) : Type 0 where
   -- between calls the runtime is Armed exactly while a lease stands
@@ -64,3 +70,6 @@ pub record StateFacts (s : Start) (h : History) : Type 0 where
   -- a tick takes every lease away that has expired or was not supervised, whatever the driver replies
   pub tick-revokes : (b : Book) → phaseAt s h ≡ Idle b → (now : ℕ) (replies : List Reply) (items : List Item) (b′ : Book)
       → Runs (tick now b (λ b″. Done b″ Returned)) replies items (Done b′ Returned) → Revoked now b items b′
+  -- a step keeps at most one receipt
+  pub one-receipt : (b : Book) → bookIn (phaseAt s h) ≡ some b → (i : Input) (b′ : Book) → bookIn (phaseAt s (i ∷ h)) ≡ some b′
+      → KeepsOne (outputAt s (i ∷ h)) (b .receipts) (b′ .receipts)
