@@ -6,7 +6,7 @@ use mathlib.Core.Logic.{inl, inr, _≢_}
 use mathlib.Core.Option.{Option, some, none, Option·none-ne-some, Option·some-injective}
 use mathlib.Core.Path.{_≡_, refl, sym, ap, _∙_, subst}
 use borrow.Author.Tests.{eqb-true, eq-eqb}
-use lib.Bits.{bitAnd, bitOr}
+use lib.Bits.{bitAnd}
 use lib.Dec.{eqb, ltb, leb}
 use lib.ListN.{set, take}
 use Rattle.model.specs.declared.Capability.{Capability}
@@ -24,12 +24,12 @@ use Rattle.model.specs.declared.Submission.{Submission}
 use Rattle.model.specs.Reasons.{number}
 use Rattle.model.specs.Soundness.{axisUsed}
 use Rattle.model.proofs.Tests.{and-both}
-use Rattle.rules.specs.Book.{Book, leaseAt, withLeases, withNextLease, withEpoch, withFlags, withLastTick, withState, withInvalidCount, withEstopSeen}
+use Rattle.rules.specs.Book.{Book, leaseAt, withLeases, withNextLease, withEpoch, withFlags, withState, withInvalidCount, withEstopSeen}
 use Rattle.rules.specs.Receipts.{kept, numbered, event, Progress, notSent, orderReceipt}
 use Rattle.rules.specs.Interaction.{Answer, Returned, Polled, Succeeded, Leased as LeasedTo, Refused, Submitted, Done, Observe}
 use Rattle.rules.specs.Admission.{firstFailing, isArmed, isEstopped, isFaulted, isStale, ready, isFree, validRequest, axes, acquireChecks, heldAxis, leaseOn, heldLease, withId, orderCapability, orderLease, verdict, validate, admission}
 use Rattle.rules.specs.Admissible.{Mem}
-use Rattle.rules.specs.Rules.{usedAxes, bumpEpoch, recordReceipt, refreshState, trip, exhausted, meetsEstop, emergencyStop, pollEstop, recovered, recoveries, recover, recoverLocal, newLease, granted, leased, grant, acquire, extended, extend, renewed, renew, canceled, cancel, storm, reject, consumed, streamEnd, fail, complete, verified, verify, dispatch, admit, submit}
+use Rattle.rules.specs.Rules.{usedAxes, bumpEpoch, recordReceipt, refreshState, trip, exhausted, meetsEstop, masked, emergencyStop, pollEstop, recovered, recoveries, recover, recoverLocal, newLease, granted, leased, grant, acquire, extended, extend, renewed, renew, canceled, cancel, storm, reject, consumed, streamEnd, fail, complete, verified, verify, dispatch, admit, submit}
 use Rattle.rules.specs.Protocol.{Call, Tick, UpdateState, EmergencyStop, PollEstop, RecoverLocal, Acquire, Renew, Cancel, Submit, Observed, Executed, Recorded, ItemObserve, ItemExecute, Start, begin}
 use Rattle.rules.specs.Log.{History, phaseAt, Took, Replied, Handed, Log, logOf, callOf, submissionOf, reaching, executed, nextNumber, observing, Admitted, admittedAs, admitting, admissions, entryOf, highest, isControl, isGrant, live, holding, seenRaise, stops, updated}
 use Rattle.rules.specs.Claim.{Leased, Observing, tenancyIn}
@@ -44,10 +44,9 @@ use Rattle.rules.proofs.Update.{inv-update}
 module _ (s : Start) where
   -- ---- emergency_stop, poll_estop
 
-  -- a stop, once the mask is set in the flags
-  inv-stop : (c : Call) (now : ℕ) (l : Log) (b : Book) (a : Answer) → InHand s c l (withFlags (bitOr (b .flags) (b .config .«estop_mask»)) b)
+  inv-stop : (c : Call) (now : ℕ) (l : Log) (b : Book) (a : Answer) → InHand s c l (masked now b)
       → Safe (I s) (End s) l (emergencyStop now b (λ b′. Done b′ a))
-  unfolding emergencyStop withFlags withLastTick
+  unfolding emergencyStop
   inv-stop c now l b a h = keeps-trip (End s) (in-hand s c) Reason.Estop _ _ tt (λ l′ b′ h′. inv-ends s c a l′ b′ h′) l _ h
 
   inv-poll : (raised now : ℕ) (l : Log) (b : Book) → I s l b → Safe (I s) (End s) (Took (PollEstop raised now) ∷ l) (pollEstop raised now b)
@@ -64,7 +63,7 @@ module _ (s : Start) where
           (cond t (Done b (Polled false)) (emergencyStop now (withEstopSeen raised b) (λ b′. Done b′ (Polled true))))
       go true e =
           inv-ends s c (Polled false) (Took c ∷ l) b (inv-took s c l b (rw (test e)) (eqb-true _ _ (test e)) h, (refl, refl))
-      go false e = inv-stop c now (Took c ∷ l) (withEstopSeen raised b) (Polled true) (inv-stopped s c l b raised (rw (test e)) refl h, (refl, refl))
+      go false e = inv-stop c now (Took c ∷ l) (withEstopSeen raised b) (Polled true) (inv-stopped s c now l b raised (rw (test e)) refl h, (refl, refl))
 
   -- ---- recover_local
 
@@ -390,7 +389,7 @@ module _ (s : Start) where
       inv-tick s (Tick now) now l b _ refl refl (λ n. refl) h (λ l′ b′ h′ settled. inv-ends s (Tick now) Returned l′ b′ (h′ .0))
   inv-call l (UpdateState flags now) b h = inv-update s flags now l b h
   inv-call l (EmergencyStop now) b h =
-      inv-stop (EmergencyStop now) now _ b Returned (inv-stopped s (EmergencyStop now) l b (b .estopSeen) refl (h .2 .last-raise) h, (refl, refl))
+      inv-stop (EmergencyStop now) now _ b Returned (inv-stopped s (EmergencyStop now) now l b (b .estopSeen) refl (h .2 .last-raise) h, (refl, refl))
   inv-call l (PollEstop raised now) b h = inv-poll raised now l b h
   inv-call l (RecoverLocal now) b h =
       inv-tick s (RecoverLocal now) now l b _ refl refl (λ n. refl) h (λ l′ b′ h′ settled. inv-recover _ now l′ b′ (h′ .0))

@@ -8,7 +8,6 @@ use mathlib.Core.Option.{Option, some, none, Option·none-ne-some, Option·some-
 use mathlib.Core.Path.{_≡_, refl, sym, ap, _∙_, subst}
 use native.Mathlib.Omega.{arith}
 use borrow.Author.Tests.{eqb-true, eq-eqb, ne-eqb}
-use lib.Bits.{bitOr}
 use lib.Dec.{eqb}
 use lib.IntN.{ℤ}
 use lib.ListN.{length, length-set, getD, set, take, replicate}
@@ -29,7 +28,7 @@ use Rattle.model.specs.Soundness.{sound}
 use Rattle.rules.specs.Book.{Book, leaseAt, withLeases, withActive, withReplay, withReceipts, withNextReceipt, withNextLease, withEpoch, withFlags, withLastTick, withState, withInvalidCount, withEstopSeen}
 use Rattle.rules.specs.Receipts.{top, bump, receiptCapacity, keep, kept}
 use Rattle.rules.specs.Interaction.{Answer}
-use Rattle.rules.specs.Rules.{replayCapacity, bumpEpoch, cleared, refreshState, newLease, granted, extended, withSequence, consumed}
+use Rattle.rules.specs.Rules.{replayCapacity, masked, bumpEpoch, cleared, refreshState, newLease, granted, extended, withSequence, consumed}
 use Rattle.rules.specs.Protocol.{Call, Acquire, Renew, Submit, Reply, ItemObserve, ItemExecute, ItemFallback, ItemRecord, Start, opening, refusedStart}
 use Rattle.rules.specs.Log.{Took, Replied, Handed, Ended, Log, callOf, submissionOf, reaching, executed, counted, nextNumber, keptAfter, receiptsOf, observing, Admitted, admittedAs, admitting, admissions, entryOf, highest, Tenancy, tenancyOf, until, renewedBy, isControl, isGrant, recordedOn, holding, live, seenRaise, stops, fallsFor, inForce, flagsOf, bumpsAt, bumps}
 use Rattle.rules.specs.Admissible.{Mem}
@@ -153,11 +152,11 @@ pub inv-took : (s : Start) (c : Call) (l : Log) (b : Book) → stops (Took c) l 
 unfolding executed admissions live receiptsOf nextNumber
 inv-took s c l b no-stop same h = (h .0, tt, epochs-took s c l b no-stop same (h .2))
 
--- a stop, once the mask is set in the flags
-pub inv-stopped : (s : Start) (c : Call) (l : Log) (b : Book) (seen : ℕ) → stops (Took c) l ≡ true → seen ≡ seenRaise (Took c ∷ l) → I s l b
-    → I s (Took c ∷ l) (withFlags (bitOr (b .flags) (b .config .«estop_mask»)) (withEstopSeen seen b))
-unfolding executed admissions live receiptsOf nextNumber withFlags withEstopSeen
-inv-stopped s c l b seen stop same h = (h .0, tt, epochs-stopped s c l b seen stop (h .0 .config) same (h .2))
+-- a stop, once the mask is set in the flags, and the raise number seen
+pub inv-stopped : (s : Start) (c : Call) (now : ℕ) (l : Log) (b : Book) (seen : ℕ) → stops (Took c) l ≡ true → seen ≡ seenRaise (Took c ∷ l) → I s l b
+    → I s (Took c ∷ l) (masked now (withEstopSeen seen b))
+unfolding executed admissions live receiptsOf nextNumber masked withEstopSeen withLastTick withFlags bumpEpoch withEpoch
+inv-stopped s c now l b seen stop same h = (h .0, tt, epochs-stopped s c l b seen stop (h .0 .config) same (h .2))
 
 -- as it ends, the flags that this brings into force are set
 pub inv-ended : (s : Start) (a : Answer) (l : Log) (b : Book) → InvBook s l b → EpochsAt s (Ended a) l b → I s (Ended a ∷ l) b

@@ -1,5 +1,5 @@
 -- Every call keeps the state's facts, and none answers 18. Assumes nothing.
-use Prim.Native.Nat.{ℕ, max}
+use Prim.Native.Nat.{ℕ, _≤_}
 use mathlib.Core.Bool.{Bool, true, false, cond, not, _&&_, _||_, true≢false, false≢true}
 use mathlib.Core.List.{List, [], _∷_, _++_}
 use mathlib.Core.Logic.{_≢_}
@@ -28,7 +28,7 @@ use Rattle.rules.specs.Book.{Book, activeAt, withActive, withReplay, wit
 use Rattle.rules.specs.Receipts.{isRejected, numbered, event, Progress, notSent, orderReceipt}
 use Rattle.rules.specs.Interaction.{Answer, Returned, Polled, Succeeded, Leased, Refused, Submitted, Interaction, Done, Observe}
 use Rattle.rules.specs.Admission.{Check, check, firstFailing, holdsOf, isArmed, isEstopped, isFaulted, isStale, ready, validRequest, axes, acquireChecks, renewChecks, heldAxis, leaseOn, heldLease, orderCapability, orderLease, verdict, validate, admission}
-use Rattle.rules.specs.Rules.{usedAxes, bumpEpoch, refreshState, tripped, trip, fallbackOrTrip, exhausted, preconditions, meetsEstop, newFlags, sense, updateState, emergencyStop, pollEstop, recovered, recoveries, recover, recoverLocal, newLease, leased, grant, acquire, extended, extend, renewed, renew, canceled, cancel, storm, reject, withSequence, consumed, fail, streamEnd, complete, verified, verify, dispatch, admit, submit}
+use Rattle.rules.specs.Rules.{usedAxes, bumpEpoch, refreshState, tripped, trip, fallbackOrTrip, exhausted, preconditions, meetsEstop, flagged, newFlags, sense, updateState, stopTime, masked, emergencyStop, pollEstop, recovered, recoveries, recover, recoverLocal, newLease, leased, grant, acquire, extended, extend, renewed, renew, canceled, cancel, storm, reject, withSequence, consumed, fail, streamEnd, complete, verified, verify, dispatch, admit, submit}
 use Rattle.rules.specs.Protocol.{Call, Tick, UpdateState, EmergencyStop, PollEstop, RecoverLocal, Acquire, Renew, Cancel, Submit, Executed, ItemExecute, Start, begin}
 use Rattle.rules.specs.Log.{Took, Replied, Handed, Log}
 use Rattle.rules.specs.StateFacts.{NoLease}
@@ -124,17 +124,17 @@ module _ (s : Start) where
       go false rest = rest l b h
 
   end-new-flags : (flags now : ℕ) (l : Log) (b : Book) → Tidy s b → Safe (Seen s) End l (newFlags flags now b)
-  unfolding newFlags withFlags bumpEpoch withEpoch withState
+  unfolding newFlags flagged withFlags bumpEpoch withEpoch withState
   end-new-flags flags now l b h = go (meetsEstop flags (b .config)) refl
     where
       go : (t : Bool) → meetsEstop flags (b .config) ≡ t → Safe (Seen s) End l
-          (cond t (trip Reason.Estop now (bumpEpoch (withFlags flags b)) (λ b″. Done b″ Returned))
-          (preconditions axes now (bumpEpoch (withFlags flags b)) (λ b″. Done (refreshState b″) Returned)))
+          (cond t (trip Reason.Estop now (flagged flags b) (λ b″. Done b″ Returned))
+          (preconditions axes now (flagged flags b) (λ b″. Done (refreshState b″) Returned)))
       go true e =
-          end-tripped Reason.Estop now l (bumpEpoch (withFlags flags b)) Returned tt
+          end-tripped Reason.Estop now l (flagged flags b) Returned tt
           (good-bumped s (withState (tripped Reason.Estop (b .state)) (withFlags flags b)) (good-marked s flags b (h .0 .0 .0)))
       go false e =
-          end-preconditions axes now l (bumpEpoch (withFlags flags b)) _
+          end-preconditions axes now l (flagged flags b) _
           ((good-bumped s (withFlags flags b) (good-unmarked s flags b e (h .0 .0)), h .0 .1), tt)
           (λ l′ b′ h′. (tidy-refreshed s b′ (h′ .0 .0 .0) (h′ .0 .1), tt))
 
@@ -153,11 +153,15 @@ module _ (s : Start) where
 
   -- ---- emergency_stop, poll_estop
 
+  not-before : (now : ℕ) (b : Book) → b .lastTick ≤ stopTime now b
+  unfolding stopTime
+  not-before now b = omega arith
+
   end-stop : (now : ℕ) (l : Log) (b : Book) (a : Answer) → Fair a → Tidy s b → Safe (Seen s) End l (emergencyStop now b (λ b′. Done b′ a))
-  unfolding emergencyStop withLastTick withFlags
+  unfolding emergencyStop masked withLastTick withFlags
   end-stop now l b a fair h =
-      let b′ = withLastTick (max (b .lastTick) now) b in
-      end-tripped Reason.Estop (max (b .lastTick) now) l _ a fair (good-marked s _ b′ (base-ticked s _ b (omega arith) (h .0 .0 .0)))
+      let b′ = withLastTick (stopTime now b) b in
+      end-tripped Reason.Estop (stopTime now b) l (masked now b) a fair (good-marked s _ b′ (base-ticked s _ b (not-before now b) (h .0 .0 .0)))
 
   end-poll : (raised now : ℕ) (l : Log) (b : Book) → Tidy s b → Safe (Seen s) End l (pollEstop raised now b)
   unfolding pollEstop withEstopSeen

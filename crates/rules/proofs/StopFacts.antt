@@ -12,7 +12,7 @@ use Rattle.model.specs.declared.RuntimeState.the-variants as State
 use Rattle.rules.specs.Book.{Book, withLeases, withActive, withReceipts, withNextReceipt, withEpoch, withFlags, withLastTick, withState, withEstopSeen}
 use Rattle.rules.specs.Receipts.{kept}
 use Rattle.rules.specs.Interaction.{Answer, Returned, Polled, Interaction, Done}
-use Rattle.rules.specs.Rules.{usedAxes, bumpEpoch, cleared, fallback, tripped, fallbacks, trip, emergencyStop, pollEstop}
+use Rattle.rules.specs.Rules.{usedAxes, bumpEpoch, cleared, fallback, tripped, fallbacks, trip, masked, emergencyStop, pollEstop}
 use Rattle.rules.specs.Protocol.{Call, EmergencyStop, PollEstop, Calls, Answers, Start, Idle, begin, proceed, called, effect, apply, react}
 use Rattle.rules.specs.Log.{History, phaseAt, Log, logOf}
 use Rattle.rules.specs.StopFacts.{Unready, InEstop, Halted, Throughout, Unlifted, Stopped, BlocksDispatch, StopFacts}
@@ -77,7 +77,7 @@ module _ (D : Log → Book → Answer → Type 0) where
   stops : (now : ℕ) (l : Log) (b : Book) (next : Book → Interaction) → Quiet l → OnlyOn (usedAxes (b .capabilities)) b
       → ((l′ : Log) (b′ : Book) → Halted InEstop b′ → Safe (Waits InEstop) D l′ (next b′))
       → Safe (Waits InEstop) D l (emergencyStop now b next)
-  unfolding emergencyStop trip withFlags withLastTick withState
+  unfolding emergencyStop masked trip withFlags withLastTick withState
   stops now l b next quiet on f = stops-axes (usedAxes (b .capabilities)) _ l _ next ((quiet, estop-trips (b .state)), on) f
 
 -- the call answers so, in Estopped and with no lease

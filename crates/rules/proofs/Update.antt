@@ -17,7 +17,7 @@ use Rattle.rules.specs.Book.{Book, activeAt, withLeases, withActive, wit
 use Rattle.rules.specs.Receipts.{kept, numbered}
 use Rattle.rules.specs.Interaction.{Returned, Interaction, Done}
 use Rattle.rules.specs.Admission.{holdsOf, axes}
-use Rattle.rules.specs.Rules.{bumpEpoch, refreshState, cleared, trip, fallbackOrTrip, exhausted, supervise, tick, preconditions, meetsEstop, newFlags, sense, updateState}
+use Rattle.rules.specs.Rules.{bumpEpoch, refreshState, cleared, trip, fallbackOrTrip, exhausted, supervise, tick, preconditions, meetsEstop, flagged, newFlags, sense, updateState}
 use Rattle.rules.specs.Protocol.{UpdateState, ItemFallback, Start}
 use Rattle.rules.specs.Log.{Took, Handed, Ended, Log, callOf, seenRaise, stops, fallsFor, clockTripped, inForce, updated, flagsOf, bumps}
 use Rattle.rules.proofs.Axes.{some-used}
@@ -114,18 +114,19 @@ module _ (s : Start) (flags now : ℕ) where
       keeps-trip-from (End s) (in-hand s (UpdateState flags now)) Reason.Estop now _ tt (λ l′ b′ h′. inv-ends s (UpdateState flags now) Returned l′ b′ h′)
       (u .0) (u .1) l b (rw (h .0 .capabilities) (u .2)) (set-fallen (u .0) Reason.Estop l _ refl h)
 
-  inv-new-flags : (l : Log) (b : Book) → Sensing false l b → eqb flags (b .flags) ≡ false → Safe (I s) (End s) l (newFlags flags now b)
-  unfolding newFlags withFlags bumpEpoch withEpoch
-  inv-new-flags l b h new = go (meetsEstop flags (b .config))
-    where
-      set : Set l (bumpEpoch (withFlags flags b))
-      set = (h .0 .0, bumped flags flags refl (h .0 .2), h .1, h .2, rw (h .0 .2 .in-force) at new)
+  inv-flagged : (l : Log) (b : Book) → Sensing false l b → eqb flags (b .flags) ≡ false → Set l (flagged flags b)
+  unfolding flagged withFlags bumpEpoch withEpoch
+  inv-flagged l b h new = (h .0 .0, bumped flags flags refl (h .0 .2), h .1, h .2, rw (h .0 .2 .in-force) at new)
 
-      go : (t : Bool) → Safe (I s) (End s) l
-          (cond t (trip Reason.Estop now (bumpEpoch (withFlags flags b)) (λ b′. Done b′ Returned))
-          (preconditions axes now (bumpEpoch (withFlags flags b)) (λ b′. Done (refreshState b′) Returned)))
-      go true = inv-flags-stop l _ set
-      go false = inv-preconditions axes l _ (inl set)
+  inv-new-flags : (l : Log) (b : Book) → Sensing false l b → eqb flags (b .flags) ≡ false → Safe (I s) (End s) l (newFlags flags now b)
+  unfolding newFlags
+  inv-new-flags l b h new = go (meetsEstop flags (b .config)) (inv-flagged l b h new)
+    where
+      go : (t : Bool) → Set l (flagged flags b) → Safe (I s) (End s) l
+          (cond t (trip Reason.Estop now (flagged flags b) (λ b′. Done b′ Returned))
+          (preconditions axes now (flagged flags b) (λ b′. Done (refreshState b′) Returned)))
+      go true set = inv-flags-stop l _ set
+      go false set = inv-preconditions axes l _ (inl set)
 
   -- ---- the call
 

@@ -13,7 +13,7 @@ use Rattle.rules.specs.Book.{Book, leaseAt, activeAt, withFlags, withSta
 use Rattle.rules.specs.Receipts.{kept}
 use Rattle.rules.specs.Interaction.{Answer, Returned, Polled, Succeeded, Leased, Refused, Submitted, Interaction, Done}
 use Rattle.rules.specs.Admission.{holdsOf, isArmed, isStale, axes}
-use Rattle.rules.specs.Rules.{usedAxes, bumpEpoch, recordReceipt, refreshState, cleared, fallback, tripped, trip, fallbackOrTrip, exhausted, watchdog, staleness, due, fallbackIf, expiries, supervise, tick, preconditions, meetsEstop, newFlags, sense, emergencyStop, pollEstop, recovered, recoveries, recover, storm, reject}
+use Rattle.rules.specs.Rules.{usedAxes, bumpEpoch, recordReceipt, refreshState, cleared, fallback, tripped, trip, fallbackOrTrip, exhausted, watchdog, staleness, due, fallbackIf, expiries, supervise, tick, preconditions, meetsEstop, flagged, newFlags, sense, masked, emergencyStop, pollEstop, recovered, recoveries, recover, storm, reject}
 use Rattle.rules.specs.Protocol.{Reply, Recorded, ItemFallback, ItemRecord}
 use Rattle.rules.specs.Log.{Replied, Handed, Log}
 use Rattle.rules.proofs.Safe.{Safe}
@@ -132,13 +132,13 @@ module _ (W : Log → Book → Type 0) (D : Log → Book → Answer → Type 0) 
       go false rest = rest l b h
 
   walk-new-flags : (x now : ℕ) (l : Log) (b : Book) → J l b → Safe W D l (newFlags x now b)
-  unfolding newFlags
+  unfolding newFlags flagged
   walk-new-flags x now l b h = go (meetsEstop x (b .config)) (k .bumps l _ (k .flags x l b h))
     where
-      go : (t : Bool) → J l (bumpEpoch (withFlags x b))
+      go : (t : Bool) → J l (flagged x b)
           → Safe W D l
-          (cond t (trip Reason.Estop now (bumpEpoch (withFlags x b)) (λ b″. Done b″ Returned))
-          (preconditions axes now (bumpEpoch (withFlags x b)) (λ b″. Done (refreshState b″) Returned)))
+          (cond t (trip Reason.Estop now (flagged x b) (λ b″. Done b″ Returned))
+          (preconditions axes now (flagged x b) (λ b″. Done (refreshState b″) Returned)))
       go true h′ = walk-trip Reason.Estop now l _ _ h′ (λ l″ b″ h″. k .ends l″ b″ Returned tt h″)
       go false h′ =
           walk-preconditions axes now l _ _ h′ (λ l″ b″ h″. k .ends l″ (refreshState b″) Returned tt (k .refreshes l″ b″ h″))
@@ -156,7 +156,7 @@ module _ (W : Log → Book → Type 0) (D : Log → Book → Answer → Type 0) 
   -- ---- emergency_stop, poll_estop
 
   pub walk-stop : (now : ℕ) (l : Log) (b : Book) (next : Book → Interaction) → J l b → Next next → Safe W D l (emergencyStop now b next)
-  unfolding emergencyStop
+  unfolding emergencyStop masked
   walk-stop now l b next h f = walk-trip Reason.Estop _ l _ next (k .flags _ l _ (k .ticks _ l b h)) f
 
   pub walk-poll : (raised now : ℕ) (l : Log) (b : Book) → J l b → Safe W D l (pollEstop raised now b)

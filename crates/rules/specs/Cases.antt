@@ -22,7 +22,7 @@ use Rattle.rules.specs.Book.{Book, withLeases, withActive, withReplay, w
 use Rattle.rules.specs.Receipts.{bumpTo, isRejected, rejected, dropFirstRejected, evict, keep, kept, numbered, isFallback, event, axisOr255, orderReceipt}
 use Rattle.rules.specs.Interaction.{Answer, Returned, Polled, Succeeded, Leased, Refused, Submitted}
 use Rattle.rules.specs.Admission.{firstFailing, holdsOf, isEstopped, isFaulted, isArmed, isStale, ready, allowed, badDuration, validRequest, isFree, acquireChecks, isSome, withId, orderCapability, leaseFor, orderLease, hasBit, authorizes, wellFormed, isEntry, findEntry, replayed, validUntil, allContain, admission, verdict, validate}
-use Rattle.rules.specs.Rules.{select, usedAxes, bumpEpoch, recordReceipt, refreshed, refreshState, cleared, leaseId, leaseOwner, fallback, tripped, fallbacks, trip, fallbackOrTrip, exhausted, watchdog, staleness, due, fallbackIf, expiries, supervise, tick, preconditions, meetsEstop, newFlags, sense, updateState, emergencyStop, recovered, recoveries, recover, recoverLocal, newLease, granted, leased, grant, acquire, receiptNumber, original, storm, reject, withSequence, consumed, fail, streamEnd, activeUntil, complete, sameParameters, verified, verify, dispatch, admit, submit}
+use Rattle.rules.specs.Rules.{select, usedAxes, bumpEpoch, recordReceipt, refreshed, refreshState, cleared, leaseId, leaseOwner, fallback, tripped, fallbacks, trip, fallbackOrTrip, exhausted, watchdog, staleness, due, fallbackIf, expiries, supervise, tick, preconditions, meetsEstop, flagged, newFlags, sense, updateState, stopTime, masked, emergencyStop, recovered, recoveries, recover, recoverLocal, newLease, granted, leased, grant, acquire, receiptNumber, original, storm, reject, withSequence, consumed, fail, streamEnd, activeUntil, complete, sameParameters, verified, verify, dispatch, admit, submit}
 use Rattle.rules.specs.Protocol.{Tick, UpdateState, EmergencyStop, RecoverLocal, Acquire, Submit, Observed, Executed, FellBack, Recorded, Input, Calls, Replies, Output, Started, StartRefused, Hands, Answers, Reminds, Refuses, Shows, NoRuntime, Start, opening, badConfig, refusedRecord, refusedStart, itemOf, waitBook, bookIn, resume, begin, proceed, startFrom, startUnless, start, called, resumed, startReplied, replied, effect, apply, react}
 use Rattle.rules.specs.Lives.{outputsFrom, phaseFrom}
 
@@ -186,5 +186,5 @@ cases =
 
 -- every case of the table comes out as 01 says
 pub cases-hold : map outcomeOf cases ≡ map (λ c. some (c .expected)) cases
-unfolding cases outcomeOf theStart bookOutcome lastSaid said answerSaid outputsFrom phaseFrom react apply effect replied startReplied resumed called start startUnless startFrom proceed begin resume bookIn waitBook itemOf refusedStart refusedRecord badConfig opening submit admit dispatch verify verified sameParameters complete activeUntil streamEnd fail consumed withSequence reject storm original receiptNumber acquire grant leased granted newLease recoverLocal recover recoveries recovered emergencyStop updateState sense newFlags meetsEstop preconditions tick supervise expiries fallbackIf due staleness watchdog exhausted fallbackOrTrip trip fallbacks tripped fallback leaseOwner leaseId cleared refreshState refreshed recordReceipt bumpEpoch usedAxes select validate verdict admission allContain validUntil replayed findEntry isEntry wellFormed authorizes hasBit orderLease leaseFor orderCapability withId isSome acquireChecks isFree validRequest badDuration allowed ready isStale isArmed isFaulted isEstopped holdsOf firstFailing orderReceipt axisOr255 event isFallback numbered kept keep evict dropFirstRejected rejected isRejected bumpTo withLeases withActive withReplay withReceipts withNextReceipt withNextLease withEpoch withFlags withStateAt withLastTick withState withInvalidCount withEstopSeen permits inside shareNoBit sound conditions verifiable every isZero contains
+unfolding cases outcomeOf theStart bookOutcome lastSaid said answerSaid outputsFrom phaseFrom react apply effect replied startReplied resumed called start startUnless startFrom proceed begin resume bookIn waitBook itemOf refusedStart refusedRecord badConfig opening submit admit dispatch verify verified sameParameters complete activeUntil streamEnd fail consumed withSequence reject storm original receiptNumber acquire grant leased granted newLease recoverLocal recover recoveries recovered stopTime masked emergencyStop updateState sense flagged newFlags meetsEstop preconditions tick supervise expiries fallbackIf due staleness watchdog exhausted fallbackOrTrip trip fallbacks tripped fallback leaseOwner leaseId cleared refreshState refreshed recordReceipt bumpEpoch usedAxes select validate verdict admission allContain validUntil replayed findEntry isEntry wellFormed authorizes hasBit orderLease leaseFor orderCapability withId isSome acquireChecks isFree validRequest badDuration allowed ready isStale isArmed isFaulted isEstopped holdsOf firstFailing orderReceipt axisOr255 event isFallback numbered kept keep evict dropFirstRejected rejected isRejected bumpTo withLeases withActive withReplay withReceipts withNextReceipt withNextLease withEpoch withFlags withStateAt withLastTick withState withInvalidCount withEstopSeen permits inside shareNoBit sound conditions verifiable every isZero contains
 cases-hold = refl

@@ -164,12 +164,15 @@ preconditions (axis ∷ rest) now b next =
 unfoldable pub meetsEstop : ℕ → Config → Bool
 meetsEstop flags config = not (shareNoBit flags (config .«estop_mask»))
 
--- 01: "new flags bump the epoch; an estop bit trips 11; else active orders .."
+-- 01: "new flags bump the epoch"
+unfoldable pub flagged : ℕ → Book → Book
+flagged flags b = bumpEpoch (withFlags flags b)
+
+-- 01: "an estop bit trips 11; else active orders .."
 unfoldable pub newFlags : ℕ → ℕ → Book → Interaction
 newFlags flags now b =
-    let b′ = bumpEpoch (withFlags flags b) in
-    cond (meetsEstop flags (b .config)) (trip Reason.Estop now b′ (λ b″. Done b″ Returned))
-    (preconditions axes now b′ (λ b″. Done (refreshState b″) Returned))
+    cond (meetsEstop flags (b .config)) (trip Reason.Estop now (flagged flags b) (λ b′. Done b′ Returned))
+    (preconditions axes now (flagged flags b) (λ b′. Done (refreshState b′) Returned))
 
 -- 01: "return if now is before last tick; stamp; equal flags end it"
 unfoldable pub sense : ℕ → ℕ → Book → Interaction
@@ -182,11 +185,17 @@ updateState flags now b = tick now b (sense flags now)
 
 -- emergency_stop, poll_estop -----------------------------------------------------------------------------------------
 
--- 01: "sets last tick to the larger time and ORs the mask into flags, without bumping for that, then trips 11 at that larger time"
+-- the larger time
+unfoldable pub stopTime : ℕ → Book → ℕ
+stopTime now b = max (b .lastTick) now
+
+-- 01: "sets last tick to the larger time and ORs the mask into flags, without bumping for that"
+unfoldable pub masked : ℕ → Book → Book
+masked now b = withFlags (bitOr (b .flags) (b .config .«estop_mask»)) (withLastTick (stopTime now b) b)
+
+-- 01: "then trips 11 at that larger time"
 unfoldable pub emergencyStop : ℕ → Book → (Book → Interaction) → Interaction
-emergencyStop now b next =
-    let time = max (b .lastTick) now in
-    trip Reason.Estop time (withFlags (bitOr (b .flags) (b .config .«estop_mask»)) (withLastTick time b)) next
+emergencyStop now b next = trip Reason.Estop (stopTime now b) (masked now b) next
 
 -- 01: "a poll sees it exactly when it differs from the number last seen"
 unfoldable pub pollEstop : ℕ → ℕ → Book → Interaction
