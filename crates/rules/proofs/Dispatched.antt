@@ -26,7 +26,7 @@ use Rattle.rules.specs.Admission.{Check, firstFailing, ready, withId, or
 use Rattle.rules.specs.Admissible.{Inside, Admissible}
 use Rattle.rules.specs.Rules.{refreshState, trip, meetsEstop, updateState, recovered, recoverLocal, leased, grant, acquire, extend, renewed, renew, canceled, cancel, withSequence, consumed, fail, streamEnd, complete, verified, verify, dispatch, admit, submit}
 use Rattle.rules.specs.Protocol.{Call, Tick, UpdateState, EmergencyStop, PollEstop, RecoverLocal, Acquire, Renew, Cancel, Submit, Observed, Executed, ItemObserve, ItemExecute, ItemFallback, ItemRecord, Hands, Start, Phase, Starting, Gone, Idle, Waiting, waitBook, bookIn, opening, begin}
-use Rattle.rules.specs.Log.{History, phaseAt, outputAt, Took, Replied, Handed, Ended, Log, logOf, callOf, Tenancy, live}
+use Rattle.rules.specs.Log.{History, phaseAt, outputAt, Took, Replied, Handed, Ended, Log, handed, logOf, callOf, Tenancy, live}
 use Rattle.rules.specs.Claim.{Carried, tenancyIn}
 use Rattle.rules.specs.StopFacts.{Unready, Dispatched}
 use Rattle.rules.proofs.Admission.{admitted-exactly}
@@ -242,11 +242,11 @@ record Executing (s : Start) (h : History) : Type 0 where
   sent : Sent order book
 
 executing : (s : Start) (h : History) (c : ℕ) (ps : List ℤ) → outputAt s h ≡ Hands (ItemExecute c ps) → Executing s h
-unfolding callOf
+unfolding callOf handed
 executing s h c ps e = go (readable s (logOf s h) (phaseAt s h) (always-sent s h))
   where
     n : (l : Log) × (logOf s h ≡ Handed (ItemExecute c ps) ∷ l)
-    n = newest s h (ItemExecute c ps) e
+    n = newest s h (Handed (ItemExecute c ps)) (ap handed e)
 
     go : Readable (logOf s h) (phaseAt s h) → Executing s h
     go (inl plain) = absurd (subst Plain (n .1) plain)

@@ -27,12 +27,13 @@ use Rattle.model.specs.declared.Submission.{Submission}
 use Rattle.model.specs.Soundness.{sound}
 use Rattle.rules.specs.Book.{Book, leaseAt, withLeases, withActive, withReplay, withReceipts, withNextReceipt, withNextLease, withEpoch, withFlags, withLastTick, withState, withInvalidCount, withEstopSeen}
 use Rattle.rules.specs.Receipts.{top, bump, receiptCapacity, keep, kept}
-use Rattle.rules.specs.Interaction.{Answer}
+use Rattle.rules.specs.Interaction.{Answer, Returned, Polled, Succeeded, Leased as LeasedTo, Refused, Submitted}
 use Rattle.rules.specs.Rules.{replayCapacity, masked, bumpEpoch, cleared, refreshState, newLease, granted, extended, withSequence, consumed}
 use Rattle.rules.specs.Protocol.{Call, Acquire, Renew, Submit, Reply, ItemObserve, ItemExecute, ItemFallback, ItemRecord, Start, opening, refusedStart}
-use Rattle.rules.specs.Log.{Took, Replied, Handed, Ended, Log, callOf, submissionOf, reaching, executed, counted, nextNumber, keptAfter, receiptsOf, observing, Admitted, admittedAs, admitting, admissions, entryOf, highest, Tenancy, tenancyOf, until, renewedBy, isControl, isGrant, recordedOn, holding, live, seenRaise, stops, fallsFor, inForce, flagsOf, bumpsAt, bumps}
+use Rattle.rules.specs.Log.{Took, Replied, Handed, Ended, Log, callOf, submissionOf, reaching, executed, counted, nextNumber, keptAfter, receiptsOf, observing, dispatching, Admitted, admittedAs, admitting, admissions, entryOf, highest, Tenancy, tenancyOf, until, renewedBy, isControl, isGrant, recordedOn, holding, live, seenRaise, stops, fallsFor, inForce, flagsOf, bumpsAt, bumps}
 use Rattle.rules.specs.Admissible.{Mem}
 use Rattle.rules.specs.Claim.{Distinct, Carried, Leased, Observing, Recording, tenancyIn, Rising, Name, nameOf, SoundStart}
+use Rattle.rules.specs.StopFacts.{Reported}
 use Rattle.rules.proofs.Soundness.{sound-start}
 use Rattle.rules.proofs.Safe.{Plain}
 use Rattle.rules.proofs.Keeps.{at-set, at-set-in}
@@ -103,7 +104,15 @@ InvBook s l b =
 abbrev pub Proper : Start → Log → ℕ → List ℤ → Type 0
 Proper s l c p = (k : Carried l c p) × Leased s l (k .submission)
 
--- what the newest event says, if it is an observe, an execute or a record item
+abbrev pub Answering : Log → Answer → Type 0
+Answering l Returned = Unit
+Answering l (Polled new) = Unit
+Answering l Succeeded = Unit
+Answering l (LeasedTo x) = Unit
+Answering l (Refused reason) = Unit
+Answering l (Submitted r) = Reported (dispatching l) r
+
+-- what the newest event says, if it is an observe, an execute or a record item, or an order's end
 abbrev pub Carry : Start → Log → Type 0
 Carry s [] = Unit
 Carry s (Took c ∷ l) = Unit
@@ -112,7 +121,7 @@ Carry s (Handed (ItemObserve axis) ∷ l) = Observing s l axis
 Carry s (Handed (ItemExecute c p) ∷ l) = Proper s (Handed (ItemExecute c p) ∷ l) c p
 Carry s (Handed (ItemFallback axis r) ∷ l) = Unit
 Carry s (Handed (ItemRecord r) ∷ l) = Recording l r
-Carry s (Ended a ∷ l) = Unit
+Carry s (Ended a ∷ l) = Answering l a
 
 abbrev pub I : Start → Log → Book → Type 0
 I s l b = InvBook s l b × Carry s l × EpochsOf s l b
@@ -159,9 +168,9 @@ unfolding executed admissions live receiptsOf nextNumber masked withEstopSeen wi
 inv-stopped s c now l b seen stop same h = (h .0, tt, epochs-stopped s c l b seen stop (h .0 .config) same (h .2))
 
 -- as it ends, the flags that this brings into force are set
-pub inv-ended : (s : Start) (a : Answer) (l : Log) (b : Book) → InvBook s l b → EpochsAt s (Ended a) l b → I s (Ended a ∷ l) b
+pub inv-ended : (s : Start) (a : Answer) (l : Log) (b : Book) → Answering l a → InvBook s l b → EpochsAt s (Ended a) l b → I s (Ended a ∷ l) b
 unfolding executed admissions live receiptsOf nextNumber seenRaise bumps bumpsAt
-inv-ended s a l b f e = (f, tt, e)
+inv-ended s a l b carry f e = (f, carry, e)
 
 -- ---- a receipt of an order or a fallback
 

@@ -58,16 +58,29 @@ pub record Shared (Q : Reason → Type 0) (W J : Log → Book → Type 0) : Type
       → J (Handed (ItemRecord (numbered (b .nextReceipt) r)) ∷ l) (kept (numbered (b .nextReceipt) r) b)
   pub trips : (reason : Reason) (l : Log) (b : Book) → J l b → J l (withState (tripped reason (b .state)) b)
 
+-- beside a fact about the log that the events of these rules keep
+pub beside : {Q : Reason → Type 0} {W J : Log → Book → Type 0} (P : Log → Type 0) → ((r : Reply) (l : Log) → P l → P (Replied r ∷ l))
+    → ((axis : ℕ) (reason : Reason) (l : Log) → P l → P (Handed (ItemFallback axis reason) ∷ l))
+    → ((r : Receipt) (l : Log) → P l → P (Handed (ItemRecord r) ∷ l)) → Shared Q W J → Shared Q W (λ l b. J l b × P l)
+beside P replied falls records k =
+    record {
+      waits = λ l b h. k .waits l b (h .0);
+      replied = λ r l b h. (k .replied r l b (h .0), replied r l (h .1));
+      falls = λ axis reason l b q h. (k .falls axis reason l b q (h .0), falls axis reason l (h .1));
+      records = λ r l b quiet h. (k .records r l b quiet (h .0), records _ l (h .1));
+      trips = λ reason l b h. (k .trips reason l b (h .0), h .1);
+    }
+
 abbrev pub AnyReason : Reason → Type 0
 AnyReason reason = Unit
 
 module _ {Q : Reason → Type 0} {W J : Log → Book → Type 0} (D : Log → Book → Answer → Type 0) (k : Shared Q W J) where
   pub keeps-record : (r : Receipt) (l : Log) (b : Book) (next : Receipt → Book → Interaction) → isControl (r .decision) ≡ false → J l b
-      → ((r′ : Receipt) (l′ : Log) (b′ : Book) → J l′ b′ → Safe W D l′ (next r′ b′)) → Safe W D l (recordReceipt r b next)
+      → ((l′ : Log) (b′ : Book) → J l′ b′ → Safe W D l′ (next (numbered (b .nextReceipt) r) b′)) → Safe W D l (recordReceipt r b next)
   unfolding recordReceipt
   keeps-record r l b next quiet h f =
       let h₁ = k .records r l b quiet h in
-      (k .waits _ _ h₁, f _ _ _ (k .replied Recorded _ _ h₁))
+      (k .waits _ _ h₁, f _ _ (k .replied Recorded _ _ h₁))
 
   -- a fallback whose item is handed out in a good book
   pub keeps-fallen : (axis : ℕ) (reason : Reason) (now : ℕ) (l : Log) (b : Book) (next : Bool → Book → Interaction)
@@ -75,7 +88,7 @@ module _ {Q : Reason → Type 0} {W J : Log → Book → Type 0} (D : Log → Bo
       → ((ok : Bool) (l′ : Log) (b′ : Book) → J l′ b′ → Safe W D l′ (next ok b′)) → Safe W D l (fallback axis reason now b next)
   unfolding fallback event isControl
   keeps-fallen axis reason now l b next h f =
-      (k .waits _ _ h, λ ok. keeps-record _ _ (cleared axis b) (λ r b′. next ok b′) refl (k .replied (FellBack ok) _ _ h) (λ r. f ok))
+      (k .waits _ _ h, λ ok. keeps-record _ _ (cleared axis b) (λ r b′. next ok b′) refl (k .replied (FellBack ok) _ _ h) (f ok))
 
   pub keeps-fallback : (axis : ℕ) (reason : Reason) (now : ℕ) (l : Log) (b : Book) (next : Bool → Book → Interaction) → Q reason → J l b
       → ((ok : Bool) (l′ : Log) (b′ : Book) → J l′ b′ → Safe W D l′ (next ok b′)) → Safe W D l (fallback axis reason now b next)

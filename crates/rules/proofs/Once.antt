@@ -9,11 +9,13 @@ use Rattle.model.specs.declared.Action.{Action}
 use Rattle.model.specs.declared.Receipt.{Receipt}
 use Rattle.model.specs.declared.Submission.{Submission}
 use Rattle.rules.specs.Book.{Book}
-use Rattle.rules.specs.Protocol.{Submit, Item, ItemObserve, ItemExecute, ItemRecord, Hands, Start, Phase, Starting, Gone, Idle, Waiting, waitBook, bookIn, start, react}
+use Rattle.rules.specs.Interaction.{Submitted}
+use Rattle.rules.specs.Protocol.{Submit, ItemObserve, ItemExecute, ItemRecord, Hands, Answers, Start, Phase, Starting, Gone, Idle, Waiting, waitBook, bookIn, start, react}
 use Rattle.rules.specs.Lives.{Life}
-use Rattle.rules.specs.Log.{History, phaseAt, outputAt, Handed, Log, handed, arrived, extended, logOf, executed, executedBy, executedIn}
+use Rattle.rules.specs.Log.{History, phaseAt, outputAt, Event, Handed, Ended, Log, handed, arrived, extended, logOf, executed, dispatching, executedBy, executedIn}
 use Rattle.rules.specs.Admissible.{Mem}
 use Rattle.rules.specs.Claim.{Distinct, Carried, Leased, Observing, Recording, BookFacts}
+use Rattle.rules.specs.StopFacts.{Reported}
 use Rattle.rules.proofs.Safe.{Plain, SafePhase, at-wait, shows}
 use Rattle.rules.proofs.Invariant.{I, orders, held, Proper, Carry, plain-executed}
 use Rattle.rules.proofs.Within.{End}
@@ -47,36 +49,43 @@ book-facts s h b e =
       epoch = k .2 .count;
     }
 
--- the newest event is the item that the newest output hands out
-pub newest : (s : Start) (h : History) (item : Item) → outputAt s h ≡ Hands item → (l : Log) × (logOf s h ≡ Handed item ∷ l)
-unfolding outputAt logOf extended handed
-newest s [] item e = ([], ap handed e)
-newest s (i ∷ past) item e =
+-- the newest event is what the newest output hands out
+pub newest : (s : Start) (h : History) (e : Event) → handed (outputAt s h) ≡ e ∷ [] → (l : Log) × (logOf s h ≡ e ∷ l)
+unfolding outputAt logOf extended
+newest s [] e q = ([], q)
+newest s (i ∷ past) e q =
     let l = arrived i (react (phaseAt s past) i .output) ++ logOf s past in
-    (l, ap (λ o. handed o ++ l) e)
+    (l, ap (λ (m : Log). m ++ l) q)
 
--- what the invariant says of an item that was just handed out, if no start hands out its like
-carried : (s : Start) (h : History) (item : Item) → ((l : Log) → ¬ Plain (Handed item ∷ l)) → outputAt s h ≡ Hands item
-    → (l : Log) × (logOf s h ≡ Handed item ∷ l) × Carry s (Handed item ∷ l)
-carried s h item never e = (n .0, n .1, go (split s (logOf s h) (phaseAt s h) (invariant s h)))
+-- what the invariant says of an event that has just come, if no start brings its like
+carried : (s : Start) (h : History) (e : Event) → ((l : Log) → ¬ Plain (e ∷ l)) → handed (outputAt s h) ≡ e ∷ []
+    → (l : Log) × (logOf s h ≡ e ∷ l) × Carry s (e ∷ l)
+carried s h e never q = (n .0, n .1, go (split s (logOf s h) (phaseAt s h) (invariant s h)))
   where
-    n : (l : Log) × (logOf s h ≡ Handed item ∷ l)
-    n = newest s h item e
+    n : (l : Log) × (logOf s h ≡ e ∷ l)
+    n = newest s h e q
 
-    go : Plain (logOf s h) ⊎ ((b : Book) × I s (logOf s h) b) → Carry s (Handed item ∷ n .0)
+    go : Plain (logOf s h) ⊎ ((b : Book) × I s (logOf s h) b) → Carry s (e ∷ n .0)
     go (inl plain) = absurd (never (n .0) (subst Plain (n .1) plain))
     go (inr r) = subst (λ l. Carry s l) (n .1) (r .1 .1)
 
 pub observes : (s : Start) (h : History) (axis : ℕ) → outputAt s h ≡ Hands (ItemObserve axis)
     → (l : Log) × (logOf s h ≡ Handed (ItemObserve axis) ∷ l) × Observing s l axis
-observes s h axis e = carried s h (ItemObserve axis) (λ l p. p) e
+unfolding handed
+observes s h axis e = carried s h (Handed (ItemObserve axis)) (λ l p. p) (ap handed e)
 
 pub records : (s : Start) (h : History) (r : Receipt) → outputAt s h ≡ Hands (ItemRecord r)
     → (l : Log) × (logOf s h ≡ Handed (ItemRecord r) ∷ l) × Recording l r
-records s h r e = carried s h (ItemRecord r) (λ l p. p) e
+unfolding handed
+records s h r e = carried s h (Handed (ItemRecord r)) (λ l p. p) (ap handed e)
+
+pub receipt-reports : (s : Start) (h : History) (r : Receipt) → outputAt s h ≡ Answers (Submitted r) → Reported (dispatching (logOf s h)) r
+unfolding handed dispatching
+receipt-reports s h r e = let q = carried s h (Ended (Submitted r)) (λ l p. p) (ap handed e) in rw (q .1) (q .2)
 
 proper : (s : Start) (h : History) (c : ℕ) (p : List ℤ) → outputAt s h ≡ Hands (ItemExecute c p) → Proper s (logOf s h) c p
-proper s h c p e = let q = carried s h (ItemExecute c p) (λ l k. k) e in subst (λ l. Proper s l c p) (sym (q .1)) (q .2)
+unfolding handed
+proper s h c p e = let q = carried s h (Handed (ItemExecute c p)) (λ l k. k) (ap handed e) in subst (λ l. Proper s l c p) (sym (q .1)) (q .2)
 
 pub only-submissions : (s : Start) (h : History) (c : ℕ) (p : List ℤ) → outputAt s h ≡ Hands (ItemExecute c p) → Carried (logOf s h) c p
 only-submissions s h c p e = proper s h c p e .0

@@ -17,6 +17,7 @@ use Rattle.rules.specs.Protocol.{Call, EmergencyStop, PollEstop, Calls, 
 use Rattle.rules.specs.Log.{History, phaseAt, Log, logOf}
 use Rattle.rules.specs.StopFacts.{Unready, InEstop, Halted, Throughout, Unlifted, Stopped, BlocksDispatch, StopFacts}
 use Rattle.rules.proofs.Safe.{Safe, SafePhase, always}
+use Rattle.rules.proofs.Once.{receipt-reports}
 use Rattle.rules.proofs.Keeps.{Shared, AnyReason, keeps-fallen}
 use Rattle.rules.proofs.StateBook.{Tidy, tidy-opening, OnlyOn, only-used, only-cleared, only-none}
 use Rattle.rules.proofs.StateRules.{Seen}
@@ -140,4 +141,5 @@ stop-facts =
       raise-blocks = raise-blocks;
       seen-raise = seen-raise;
       dispatch-admissible = dispatch-admissible;
+      receipt-reports = receipt-reports;
     }

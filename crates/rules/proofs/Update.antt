@@ -86,8 +86,8 @@ module _ (s : Start) (flags now : ℕ) where
 
   either-ends : (l : Log) (b : Book) → Set l b ⊎ Taken l b → Safe (I s) (End s) l (Done b Returned)
   unfolding stops inForce
-  either-ends l b (inl h) = inv-ended s Returned l b (h .0) (epochs-new s (Ended Returned) l b refl flags now (rw (h .3)) (h .2) (h .4) (h .1))
-  either-ends l b (inr h) = inv-ends s (UpdateState flags now) Returned l b h
+  either-ends l b (inl h) = inv-ended s Returned l b tt (h .0) (epochs-new s (Ended Returned) l b refl flags now (rw (h .3)) (h .2) (h .4) (h .1))
+  either-ends l b (inr h) = inv-ends s (UpdateState flags now) Returned l b tt h
 
   inv-preconditions : (is : List ℕ) (l : Log) (b : Book) → Set l b ⊎ Taken l b
       → Safe (I s) (End s) l (preconditions is now b (λ b′. Done (refreshState b′) Returned))
@@ -111,7 +111,7 @@ module _ (s : Start) (flags now : ℕ) where
   unfolding inForce fallsFor withState
   inv-flags-stop l b h =
       let u = some-used s (h .0 .sound) in
-      keeps-trip-from (End s) (in-hand s (UpdateState flags now)) Reason.Estop now _ tt (λ l′ b′ h′. inv-ends s (UpdateState flags now) Returned l′ b′ h′)
+      keeps-trip-from (End s) (in-hand s (UpdateState flags now)) Reason.Estop now _ tt (λ l′ b′ h′. inv-ends s (UpdateState flags now) Returned l′ b′ tt h′)
       (u .0) (u .1) l b (rw (h .0 .capabilities) (u .2)) (set-fallen (u .0) Reason.Estop l _ refl h)
 
   inv-flagged : (l : Log) (b : Book) → Sensing false l b → eqb flags (b .flags) ≡ false → Set l (flagged flags b)
@@ -132,12 +132,12 @@ module _ (s : Start) (flags now : ℕ) where
 
   inv-sense : (late : Bool) (l : Log) (b : Book) → Sensing late l b → Safe (I s) (End s) l (sense flags now b)
   unfolding sense stops inForce updated withStateAt
-  inv-sense true l b h = rw (h .3) (inv-ended s Returned l b (h .0 .0) (epochs-still s (Ended Returned) l b refl (rw (h .2)) (h .0 .2)))
+  inv-sense true l b h = rw (h .3) (inv-ended s Returned l b tt (h .0 .0) (epochs-still s (Ended Returned) l b refl (rw (h .2)) (h .0 .2)))
   inv-sense false l b h = rw (h .3) (go (eqb flags (b .flags)) refl)
     where
       go : (t : Bool) → eqb flags (b .flags) ≡ t
           → Safe (I s) (End s) l (cond t (Done (withStateAt now b) Returned) (newFlags flags now (withStateAt now b)))
-      go true e = inv-ends s (UpdateState flags now) Returned l b (h .0, (h .1, eqb-true _ _ e ∙ h .0 .2 .in-force))
+      go true e = inv-ends s (UpdateState flags now) Returned l b tt (h .0, (h .1, eqb-true _ _ e ∙ h .0 .2 .in-force))
       go false e = inv-new-flags l (withStateAt now b) h e
 
   pub inv-update : (l : Log) (b : Book) → I s l b → Safe (I s) (End s) (Took (UpdateState flags now) ∷ l) (updateState flags now b)

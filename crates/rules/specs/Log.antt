@@ -208,6 +208,17 @@ observing (Handed (ItemFallback axis reason) ∷ l) = observing l
 observing (Handed (ItemRecord r) ∷ l) = observing l
 observing (Ended a ∷ l) = observing l
 
+-- whether it has handed out an execute item
+unfoldable pub dispatching : Log → Bool
+dispatching [] = false
+dispatching (Took c ∷ l) = false
+dispatching (Replied r ∷ l) = dispatching l
+dispatching (Handed (ItemObserve axis) ∷ l) = dispatching l
+dispatching (Handed (ItemExecute capability parameters) ∷ l) = true
+dispatching (Handed (ItemFallback axis reason) ∷ l) = dispatching l
+dispatching (Handed (ItemRecord r) ∷ l) = dispatching l
+dispatching (Ended a ∷ l) = dispatching l
+
 -- an admitted order: the submission, and the number of the receipt that consumes its id
 pub record Admitted : Type 0 where
   pub submission : Submission

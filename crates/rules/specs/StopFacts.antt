@@ -9,16 +9,18 @@ use mathlib.Core.Path.{_≡_}
 use lib.Bits.{bitAnd}
 use lib.IntN.{ℤ}
 use Rattle.model.specs.declared.Capability.{Capability}
+use Rattle.model.specs.declared.Decision.the-variants as Decision
 use Rattle.model.specs.declared.Lease.{Lease}
+use Rattle.model.specs.declared.Receipt.{Receipt}
 use Rattle.model.specs.declared.RuntimeState.{RuntimeState}
 use Rattle.model.specs.declared.RuntimeState.the-variants as State
 use Rattle.rules.specs.Book.{Book, leaseAt}
-use Rattle.rules.specs.Interaction.{Answer, Returned, Polled, Succeeded, Interaction, Done, Observe, Execute, Fallback, Record}
+use Rattle.rules.specs.Interaction.{Answer, Returned, Polled, Succeeded, Submitted, Interaction, Done, Observe, Execute, Fallback, Record}
 use Rattle.rules.specs.Admission.{withId}
 use Rattle.rules.specs.Admissible.{Mem, Inside}
 use Rattle.rules.specs.Protocol.{Call, EmergencyStop, PollEstop, RecoverLocal, Input, Calls, ItemExecute, Output, Hands, Answers, Start, OnObserve, OnExecute, OnFallback, OnRecord, Phase, Starting, Gone, Idle, Waiting, bookIn, begin, react}
 use Rattle.rules.specs.Lives.{outputsFrom, phaseFrom}
-use Rattle.rules.specs.Log.{History, phaseAt, outputAt, Log, logOf}
+use Rattle.rules.specs.Log.{History, phaseAt, outputAt, Log, logOf, dispatching}
 use Rattle.rules.specs.Claim.{Carried}
 use Rattle.rules.specs.StateFacts.{NoLease}
 
@@ -127,6 +129,11 @@ pub record Dispatched (s : Start) (l : Log) (b : Book) (c : ℕ) (ps : List ℤ)
   pub bounds : Inside (capability .bounds) ps
   pub limits : Inside (lease .limits) ps
 
+-- the receipt of an order says `dispatched` exactly where an execute item was handed out, and Executed only there
+pub record Reported (sent : Bool) (r : Receipt) : Type 0 where
+  pub dispatched : r .dispatched ≡ sent
+  pub executed : r .decision ≡ Decision.Executed → sent ≡ true
+
 -- the statements -------------------------------------------------------------------------------------------------------
 
 pub record StopFacts : Type 0 where
@@ -157,3 +164,5 @@ pub record StopFacts : Type 0 where
   -- `submit_dispatches_only_admissible_actions`
   pub dispatch-admissible : (s : Start) (h : History) (c : ℕ) (ps : List ℤ) → outputAt s h ≡ Hands (ItemExecute c ps)
       → (b : Book) × (bookIn (phaseAt s h) ≡ some b) × Dispatched s (logOf s h) b c ps
+  -- and what it says of the receipt with which a submission ends
+  pub receipt-reports : (s : Start) (h : History) (r : Receipt) → outputAt s h ≡ Answers (Submitted r) → Reported (dispatching (logOf s h)) r
