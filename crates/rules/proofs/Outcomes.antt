@@ -1,7 +1,7 @@
 -- What an output says where an invariant holds along every call: an item handed out meets `W`, an answer meets `D`. And of one tree: two
 -- facts along it are one, and an end that replies reach meets `D`. Assumes nothing.
 use Prim.Native.Nat.{ℕ}
-use mathlib.Core.Bool.{Bool, true, false, cond, _&&_}
+use mathlib.Core.Bool.{Bool, true, false, cond}
 use mathlib.Core.List.{List, [], _∷_, _++_, cons≢nil}
 use mathlib.Core.Logic.{_⊎_, inl, inr}
 use mathlib.Core.Option.{Option, some, none}
@@ -119,7 +119,7 @@ module _ (s : Start) (I W : Log → Book → Type 0) (D : Log → Book → Answe
   brings-step : (l : Log) (p : Phase) (i : Input) → Step p i → SafePhase s I W D l p → Brought W D (react p i .output)
   unfolding react apply effect called replied startReplied
   brings-step l p i (stays st) h = brought-stays W D p i st
-  brings-step l p i (tries own axis rest good ok) h = brought-start W D own rest (good && ok)
+  brings-step l p i (tries own axis rest good ok) h = brought-start W D own _ _
   brings-step l p i (begins b c) h = brought W D (Took c ∷ l) (begin c b) (calls l c b h)
   brings-step l p i (answers {r = r} t u a) h = rw (a .reaction) (brought W D (Replied r ∷ l) u (awaited l p r (a .item) t u (a .stands) (a .takes) h))
 

@@ -362,7 +362,7 @@ fallsFor reason (ItemExecute capability parameters) = false
 fallsFor reason (ItemFallback axis r) = eqb (number r) (number reason)
 fallsFor reason (ItemRecord r) = false
 
--- the call in hand fell back for Clock: its time is before the last tick (a trip falls back at least once, since a start asks for an axis)
+-- the call in hand fell back for Clock: its time is before the last tick (that trip always shows, since a start names a used axis)
 unfoldable pub clockTripped : Log → Bool
 clockTripped [] = false
 clockTripped (Took c ∷ l) = false
