@@ -1,6 +1,10 @@
 // What acquire, renew and cancel do after their opening tick (runtime.rs): the grant and its receipt, the new end of a lease, and the
 // fallback that ends one. Each function promises that what it gives is what the rule of its name says. Rests on `machine` for the steps that
-// hand items out.
+// hand items out, and on `admission` for the checks.
+use admission::Check;
+use admission::acquire_check;
+use admission::held_axis;
+use admission::renew_check;
 use machine::AfterFallback;
 use machine::AfterRecord;
 use machine::AfterTrip;
@@ -23,10 +27,11 @@ use model::Renewal;
 ghost use mathlib.Core.Path.{_≡_};
 ghost use mathlib.Core.Option.{some, none};
 ghost use Prim.Native.Nat.{_+_, _≤_, _<_};
+ghost use Rattle.rules.specs.Admission.{firstFailing, acquireChecks, renewChecks, heldAxis};
 ghost use Rattle.rules.specs.Book.{leaseAt};
 ghost use Rattle.rules.specs.Protocol.{proceed};
 ghost use Rattle.rules.specs.Receipts.{top};
-ghost use Rattle.rules.specs.Rules.{newLease, grant as grantRule, extend as extendRule, extended as extendedLease, canceled as canceledRule};
+ghost use Rattle.rules.specs.Rules.{newLease, grant as grantRule, extend as extendRule, extended as extendedLease, renewed as renewedRule, canceled as canceledRule};
 ghost use Rattle.machine.specs.Machine.{bookOf, Sound, Gives};
 
 // The lease that a request is granted.
@@ -83,6 +88,18 @@ pub fn grant(core: Core, request: LeaseRequest, now: u64) -> Outcome
     )
 }
 
+// The checks of acquire, then the grant.
+pub fn acquire_after_tick(core: Core, request: LeaseRequest, now: u64) -> Outcome
+    requires { ⌜ Sound core ⌝ }
+    ensures { λ r. ⌜ Gives r (λ kept. proceed (grantRule (firstFailing (acquireChecks request now (bookOf core kept))) request now (bookOf core kept))) ⌝ }
+{
+    let check = acquire_check(core, request, now);
+    match check {
+        Check::Passed => grant(core, request, now),
+        Check::Failed(reason) => refused(core, reason),
+    }
+}
+
 // The same lease, until the time that the renewal asks for.
 fn extended(renewal: Renewal, lease: Lease) -> Lease
     requires { ⌜ renewal .now + renewal .«duration_ms» ≤ top ⌝ }
@@ -134,6 +151,30 @@ pub fn extend(core: Core, renewal: Renewal, axis: u8) -> Outcome
     }
 }
 
+// The renewal of the lease with this id and owner.
+fn extend_held(core: Core, renewal: Renewal) -> Outcome
+    requires { ⌜ Sound core × (renewal .now + renewal .«duration_ms» ≤ top) ⌝ }
+    ensures { λ r. ⌜ Gives r (λ kept. proceed (renewedRule none renewal (bookOf core kept))) ⌝ }
+{
+    let axis = held_axis(core, renewal.owner, renewal.lease_id);
+    if axis < 8 {
+        return extend(core, renewal, axis);
+    }
+    refused(core, Reason::Authority)
+}
+
+// The checks of renew, then the renewal.
+pub fn renew_after_tick(core: Core, renewal: Renewal) -> Outcome
+    requires { ⌜ Sound core ⌝ }
+    ensures { λ r. ⌜ Gives r (λ kept. proceed (renewedRule (firstFailing (renewChecks renewal (bookOf core kept))) renewal (bookOf core kept))) ⌝ }
+{
+    let check = renew_check(core, renewal);
+    match check {
+        Check::Passed => extend_held(core, renewal),
+        Check::Failed(reason) => refused(core, reason),
+    }
+}
+
 // The end of the lease that stands on an axis: a fallback; where it fails a trip, and 16.
 pub fn canceled(core: Core, axis: u8, now: u64) -> Outcome
     requires { ⌜ Sound core × (axis < 8) ⌝ }
@@ -149,4 +190,16 @@ pub fn canceled(core: Core, axis: u8, now: u64) -> Outcome
         at: 0,
     };
     fallback(core, falling)
+}
+
+// The end of the lease with this id and owner, or 3.
+pub fn cancel_after_tick(core: Core, owner: u64, lease_id: u64, now: u64) -> Outcome
+    requires { ⌜ Sound core ⌝ }
+    ensures { λ r. ⌜ Gives r (λ kept. proceed (canceledRule (heldAxis owner «lease_id» (bookOf core kept)) now (bookOf core kept))) ⌝ }
+{
+    let axis = held_axis(core, owner, lease_id);
+    if axis < 8 {
+        return canceled(core, axis, now);
+    }
+    refused(core, Reason::Authority)
 }

@@ -1,6 +1,9 @@
 // What an order meets after its opening tick (runtime.rs, `submit`): its receipt, a rejection and the storm of them, and observe, execute,
 // observe, verify. The order in hand is `pending.submission`; while it is carried out `carrying` has its capability. Each function
-// promises that what it gives is what the rule of its name says. Rests on `machine` for the steps that hand items out.
+// promises that what it gives is what the rule of its name says. Rests on `machine` for the steps that hand items out, and on `admission` and
+// `validation` for what it reads.
+use admission::Check;
+use admission::ready;
 use machine::AfterRecord;
 use machine::AfterTrip;
 use machine::Awaited;
@@ -14,19 +17,31 @@ use machine::record;
 use machine::submitted;
 use machine::trip;
 use model::Decision;
+use model::Lease;
+use model::LeaseSlot;
 use model::Observation;
 use model::Presence;
 use model::Reason;
 use model::Receipt;
+use model::Replay;
 use model::Submission;
+use validation::Found;
+use validation::active_until;
+use validation::find_capability;
+use validation::order_check;
+use validation::original_receipt;
+use validation::stream_end;
+use validation::verified;
 ghost use mathlib.Core.Path.{_≡_};
 ghost use mathlib.Core.List.{List};
-ghost use mathlib.Core.Option.{Option, some};
+ghost use mathlib.Core.Option.{Option, some, none};
 ghost use Rattle.model.specs.declared.Capability.{Capability};
+ghost use Rattle.rules.specs.Admission.{firstFailing, ready as readiness, admission, validate};
 ghost use Rattle.rules.specs.Protocol.{proceed};
-ghost use Rattle.rules.specs.Receipts.{orderReceipt, axisOr255};
-ghost use Rattle.rules.specs.Rules.{storm as stormRule, fail as failRule, dispatch as dispatchRule};
+ghost use Rattle.rules.specs.Receipts.{bumpTo, orderReceipt, axisOr255};
+ghost use Rattle.rules.specs.Rules.{reject as rejectRule, storm as stormRule, withSequence, fail as failRule, complete as completeRule, verify as verifyRule, dispatch as dispatchRule, admit as admitRule};
 ghost use Rattle.machine.specs.Machine.{bookOf, afterExecuted, Sound, Gives};
+ghost use Rattle.validation.specs.Answers.{capabilityIn};
 ghost use Rattle.orders.specs.Replies.{progressOf, observationIn};
 
 // How far the driver came with an order.
@@ -95,6 +110,52 @@ pub fn order_receipt(
         dispatched: progress.dispatched,
         observed_valid: progress.observed_valid,
     }
+}
+
+// The axis of the capability that an order names, or 255.
+fn axis_of(found: Found) -> u8
+    ensures { λ r. ⌜ r ≡ axisOr255 (capabilityIn found) ⌝ }
+{
+    let presence = found.presence;
+    let capability = found.capability;
+    match presence {
+        Presence::Absent => 255,
+        Presence::Present => capability.resource,
+    }
+}
+
+// One more rejection, held at the top of 16 bits.
+fn bump_rejections(n: u16) -> u16
+    ensures { λ r. ⌜ r ≡ bumpTo 65535 n ⌝ }
+{
+    if n < 65535 { n + 1 } else { n }
+}
+
+// A rejection: counted, then its receipt.
+pub fn reject(core: Core, reason: Reason) -> Outcome
+    requires { ⌜ Sound core ⌝ }
+    ensures { λ r. ⌜ Gives r (λ kept. proceed (rejectRule reason (core .pending .submission) (bookOf core kept))) ⌝ }
+{
+    let pending = core.pending;
+    let submission = pending.submission;
+    let action = submission.action;
+    let found = find_capability(core, action.capability);
+    let resource = axis_of(found);
+    let original = original_receipt(core, reason, submission);
+    let not_sent = Progress::NOT_SENT;
+    let receipt = order_receipt(
+        core,
+        submission,
+        resource,
+        Decision::Rejected,
+        reason,
+        original,
+        not_sent,
+    );
+    let mut next = core;
+    let count = next.invalid_count;
+    next.invalid_count = bump_rejections(count);
+    record(next, receipt, AfterRecord::Rejected)
 }
 
 // Rejections at or above the limit while Armed trip, after the receipt.
@@ -203,4 +264,159 @@ pub fn after_execute(core: Core, ok: bool) -> Outcome
         post_state: 0,
     };
     fail(core, Reason::Driver, progress)
+}
+
+// The order is done: what stays active, no rejections, then its receipt.
+fn complete(core: Core, progress: Progress) -> Outcome
+    requires { ⌜ Sound core ⌝ }
+    ensures { λ r. ⌜ Gives r (λ kept. proceed (completeRule (core .carrying .capability) (core .carrying .end) (progressOf progress) (core .pending .submission) (bookOf core kept))) ⌝ }
+{
+    let pending = core.pending;
+    let submission = pending.submission;
+    let carrying = core.carrying;
+    let capability = carrying.capability;
+    let receipt = order_receipt(
+        core,
+        submission,
+        capability.resource,
+        Decision::Executed,
+        Reason::Ok,
+        0,
+        progress,
+    );
+    let mut next = core;
+    let i = capability.resource as usize;
+    next.active[i] = active_until(capability, carrying.end);
+    next.invalid_count = 0;
+    record(next, receipt, AfterRecord::Executed)
+}
+
+// The observation after the execution: it shows what was asked, or the order failed.
+fn verify_seen(core: Core, seen: Observation) -> Outcome
+    requires { ⌜ Sound core ⌝ }
+    ensures { λ r. ⌜ Gives r (λ kept. proceed (verifyRule (core .carrying .capability) (core .carrying .end) (core .carrying .«pre_state») (core .pending .submission) (bookOf core kept) (some seen))) ⌝ }
+{
+    let pending = core.pending;
+    let submission = pending.submission;
+    let action = submission.action;
+    let parameters = action.parameters;
+    let carrying = core.carrying;
+    let capability = carrying.capability;
+    let verification = capability.verification;
+    let observed = seen.parameters;
+    let progress = Progress {
+        dispatched: true,
+        pre_state: carrying.pre_state,
+        executed_at: submission.now,
+        observed_valid: true,
+        observed: observed,
+        post_state: seen.state,
+    };
+    if verified(verification, parameters, seen) {
+        return complete(core, progress);
+    }
+    fail(core, Reason::Verification, progress)
+}
+
+// The reply to that observation, which the driver may fail to bring.
+pub fn verify(core: Core, reply: Observed) -> Outcome
+    requires { ⌜ Sound core ⌝ }
+    ensures { λ r. ⌜ Gives r (λ kept. proceed (verifyRule (core .carrying .capability) (core .carrying .end) (core .carrying .«pre_state») (core .pending .submission) (bookOf core kept) (observationIn reply))) ⌝ }
+{
+    let presence = reply.presence;
+    let seen = reply.observation;
+    let pending = core.pending;
+    let submission = pending.submission;
+    let carrying = core.carrying;
+    let progress = Progress {
+        dispatched: true,
+        pre_state: carrying.pre_state,
+        executed_at: submission.now,
+        observed_valid: false,
+        observed: [0; 2],
+        post_state: 0,
+    };
+    match presence {
+        Presence::Absent => fail(core, Reason::Driver, progress),
+        Presence::Present => verify_seen(core, seen),
+    }
+}
+
+fn with_sequence(lease: Lease, sequence: u64) -> Lease
+    ensures { λ r. ⌜ r ≡ withSequence sequence lease ⌝ }
+{
+    let mut next = lease;
+    next.last_sequence = sequence;
+    next
+}
+
+// Sequence and replay entry are stored before the driver is called: an order whose outcome is not known is never tried again.
+fn consume(core: Core) -> Outcome
+    requires { ⌜ Sound core × ((kept : List Receipt) → firstFailing (admission (core .pending .submission) (bookOf core kept)) ≡ none) ⌝ }
+    ensures { λ r. ⌜ Gives r (λ kept. proceed (admitRule (validate (core .pending .submission) (bookOf core kept)) (core .pending .submission) (bookOf core kept))) ⌝ }
+{
+    let pending = core.pending;
+    let submission = pending.submission;
+    let action = submission.action;
+    let found = find_capability(core, action.capability);
+    let capability = found.capability;
+    let i = capability.resource as usize;
+    let slot = core.leases[i];
+    let lease = slot.lease;
+    let mut next = core;
+    next.leases[i] = LeaseSlot {
+        presence: Presence::Present,
+        lease: with_sequence(lease, action.sequence),
+    };
+    let ring = next.replay;
+    let entry = Replay {
+        owner: submission.principal,
+        action_id: action.action_id,
+        receipt: next.next_receipt,
+    };
+    let pushed = ring.push(entry);
+    next.replay = pushed;
+    let carrying = Carrying {
+        capability: capability,
+        end: stream_end(lease, submission),
+        pre_state: 0,
+    };
+    next.carrying = carrying;
+    let waiting = Waiting {
+        awaited: Awaited::ObserveBefore,
+        after_record: AfterRecord::Fallback,
+    };
+    next.waiting = waiting;
+    Outcome {
+        kind: Kind::Item,
+        core: next,
+    }
+}
+
+// The checks after readiness; where they pass the order is taken up.
+fn check_order(core: Core) -> Outcome
+    requires { ⌜ Sound core × ((kept : List Receipt) → firstFailing (readiness (core .pending .submission .now) (bookOf core kept)) ≡ none) ⌝ }
+    ensures { λ r. ⌜ Gives r (λ kept. proceed (admitRule (validate (core .pending .submission) (bookOf core kept)) (core .pending .submission) (bookOf core kept))) ⌝ }
+{
+    let pending = core.pending;
+    let submission = pending.submission;
+    let check = order_check(core, submission);
+    match check {
+        Check::Passed => consume(core),
+        Check::Failed(reason) => reject(core, reason),
+    }
+}
+
+// The order in hand after its opening tick: `validate`, then a rejection or the first observation.
+pub fn submit_after_tick(core: Core) -> Outcome
+    requires { ⌜ Sound core ⌝ }
+    ensures { λ r. ⌜ Gives r (λ kept. proceed (admitRule (validate (core .pending .submission) (bookOf core kept)) (core .pending .submission) (bookOf core kept))) ⌝ }
+{
+    let pending = core.pending;
+    let submission = pending.submission;
+    let check = ready(core, submission.now);
+    match check {
+        Check::Passed => check_order(core),
+        Check::Failed(reason) => reject(core, reason),
+    }
 }

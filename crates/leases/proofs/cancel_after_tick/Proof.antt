@@ -1,0 +1,34 @@
+use mathlib.Core.Path.{sym}
+use Rattle.rules.specs.Rules.{canceled}
+use Rattle.machine.specs.Machine.{bookOf}
+use Rattle.machine.proofs.Steps.{gives-by}
+use Rattle.admission.proofs.Held.{held-at, none-held}
+use borrow.Author.Needs.{needs}
+use Rattle.leases.proofs.cancel_after_tick.Statement.{statement}
+use Rattle.leases.proofs.cancel_after_tick.Tie as tie
+
+held-axis-requires : tie.Need-held-axis-requires
+held-axis-requires c κs = search needs
+
+canceled-requires : tie.Need-canceled-requires
+canceled-requires c κs = search needs
+
+returns : tie.Need-returns
+returns c =
+    let a = c .before .before .before .args in
+    gives-by (c .canceled .ensures)
+    (λ kept. rw (held-at _ _ (bookOf (a .core) kept) _ (sym (c .before .before .held-axis .ensures kept)) (c .before .if1 .taken)))
+
+refused-requires : tie.Need-refused-requires
+refused-requires c κs = search needs
+
+returns-2 : tie.Need-returns-2
+unfolding canceled
+returns-2 c =
+    let a = c .before .before .before .args in
+    gives-by (c .refused .ensures)
+    (λ kept. rw (none-held _ _ (bookOf (a .core) kept) _ (sym (c .before .before .held-axis .ensures kept)) (c .before .if1 .left)))
+
+pub cancel-after-tick-spec : {M : Type 1} → statement M
+cancel-after-tick-spec =
+    tie.close (tie.spec held-axis-requires canceled-requires returns refused-requires returns-2)

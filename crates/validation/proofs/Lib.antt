@@ -1,0 +1,4 @@
+pub mod Groups
+pub mod Records
+pub mod Parameters
+pub mod Receipts
