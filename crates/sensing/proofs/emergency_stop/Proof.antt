@@ -1,5 +1,5 @@
 use Rattle.rules.specs.Book.{withFlags, withLastTick}
-use Rattle.rules.specs.Rules.{emergencyStop}
+use Rattle.rules.specs.Rules.{stopTime, masked, emergencyStop}
 use Rattle.machine.specs.Machine.{bookOf}
 use Rattle.machine.proofs.Steps.{gives-by}
 use borrow.Author.Needs.{needs}
@@ -13,7 +13,7 @@ trip-requires : tie.Need-trip-requires
 trip-requires c κs = search needs
 
 returns : tie.Need-returns
-unfolding emergencyStop bookOf withFlags withLastTick
+unfolding emergencyStop stopTime masked bookOf withFlags withLastTick
 returns c = gives-by (c .trip .ensures) (λ kept. simp (c .before .before .before .later .ensures))
 
 pub emergency-stop-spec : {M : Type 1} → statement M

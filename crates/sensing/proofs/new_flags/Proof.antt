@@ -1,6 +1,6 @@
 use mathlib.Core.Path.{sym, _∙_}
 use Rattle.rules.specs.Book.{withFlags, withEpoch}
-use Rattle.rules.specs.Rules.{bumpEpoch, meetsEstop, newFlags}
+use Rattle.rules.specs.Rules.{bumpEpoch, meetsEstop, flagged, newFlags}
 use Rattle.machine.specs.Axes.{upFrom, axesFrom}
 use Rattle.machine.specs.Machine.{bookOf, afterTrip}
 use Rattle.machine.proofs.Steps.{gives-by}
@@ -18,7 +18,7 @@ trip-requires : tie.Need-trip-requires
 trip-requires c κs = search needs
 
 returns : tie.Need-returns
-unfolding newFlags meetsEstop bumpEpoch withFlags withEpoch bookOf afterTrip
+unfolding newFlags flagged meetsEstop bumpEpoch withFlags withEpoch bookOf afterTrip
 returns c =
     gives-by (c .trip .ensures)
     (λ kept.
@@ -28,7 +28,7 @@ preconditions-from-requires : tie.Need-preconditions-from-requires
 preconditions-from-requires c κs = search needs
 
 returns-2 : tie.Need-returns-2
-unfolding newFlags meetsEstop bumpEpoch withFlags withEpoch bookOf axesFrom upFrom
+unfolding newFlags flagged meetsEstop bumpEpoch withFlags withEpoch bookOf axesFrom upFrom
 returns-2 c =
     gives-by (c .preconditions-from .ensures)
     (λ kept.

@@ -1,0 +1,3 @@
+pub mod Faithful
+pub mod Logs
+pub mod Theorem

@@ -1,0 +1,2 @@
+pub mod Leases
+pub mod Found
