@@ -88,7 +88,7 @@ fn is_used(core: Core, axis: u8) -> bool
 }
 
 // 0 or over the limit.
-pub fn bad_duration(duration_ms: u32, limit_ms: u32) -> bool
+fn bad_duration(duration_ms: u32, limit_ms: u32) -> bool
     ensures { λ r. ⌜ r ≡ badDuration «duration_ms» «limit_ms» ⌝ }
 {
     if duration_ms == 0 {
@@ -98,7 +98,7 @@ pub fn bad_duration(duration_ms: u32, limit_ms: u32) -> bool
 }
 
 // Whether the end of a duration is a time.
-pub fn end_fits(start: u64, duration_ms: u32) -> bool
+fn end_fits(start: u64, duration_ms: u32) -> bool
     ensures { λ r. ⌜ r ≡ leb (start + «duration_ms») top ⌝ }
 {
     start <= 0xffff_ffff_ffff_ffff - duration_ms as u64
@@ -127,7 +127,7 @@ fn is_valid_request(core: Core, request: LeaseRequest) -> bool
 }
 
 // The bits of an axis's capabilities: bit N for id N.
-pub fn allowed(capabilities: [Capability; 16], count: usize, axis: u8) -> u64
+fn allowed(capabilities: [Capability; 16], count: usize, axis: u8) -> u64
     requires { ⌜ ((c : Capability) → Mem c (take count capabilities) → c .id < 64) ⌝ }
     ensures { λ r. ⌜ r ≡ allowedBits (take count capabilities) axis ⌝ }
 {

@@ -53,7 +53,7 @@ fn new_lease(request: LeaseRequest, id: u64, now: u64) -> Lease
 }
 
 // A grant: the lease stands, the epoch is bumped and the state refreshed; then its receipt.
-pub fn grant(core: Core, request: LeaseRequest, now: u64) -> Outcome
+fn grant(core: Core, request: LeaseRequest, now: u64) -> Outcome
     requires { ⌜ Sound core × ((request .resource < 8) × (now + request .«duration_ms» ≤ top)) ⌝ }
     ensures { λ r. ⌜ Gives r (λ kept. proceed (grantRule none request now (bookOf core kept))) ⌝ }
 {
@@ -119,7 +119,7 @@ fn extended(renewal: Renewal, lease: Lease) -> Lease
 }
 
 // A renewal of the lease that stands on an axis: its new end, then its receipt.
-pub fn extend(core: Core, renewal: Renewal, axis: u8) -> Outcome
+fn extend(core: Core, renewal: Renewal, axis: u8) -> Outcome
     requires { ⌜ Sound core × ((axis < 8) × (renewal .now + renewal .«duration_ms» ≤ top)) ⌝ }
     ensures { λ r. ⌜ Gives r (λ kept. proceed (extendRule renewal (some axis) (leaseAt (bookOf core kept) axis) (bookOf core kept))) ⌝ }
 {
@@ -176,7 +176,7 @@ pub fn renew_after_tick(core: Core, renewal: Renewal) -> Outcome
 }
 
 // The end of the lease that stands on an axis: a fallback; where it fails a trip, and 16.
-pub fn canceled(core: Core, axis: u8, now: u64) -> Outcome
+fn canceled(core: Core, axis: u8, now: u64) -> Outcome
     requires { ⌜ Sound core × (axis < 8) ⌝ }
     ensures { λ r. ⌜ Gives r (λ kept. proceed (canceledRule (some axis) now (bookOf core kept))) ⌝ }
 {

@@ -72,7 +72,7 @@ pub struct Observed {
 }
 
 // The receipt of an order, on the axis of its capability, or 255.
-pub fn order_receipt(
+fn order_receipt(
     core: Core,
     submission: Submission,
     resource: u8,
@@ -132,7 +132,7 @@ fn bump_rejections(n: u16) -> u16
 }
 
 // A rejection: counted, then its receipt.
-pub fn reject(core: Core, reason: Reason) -> Outcome
+fn reject(core: Core, reason: Reason) -> Outcome
     requires { ⌜ Sound core ⌝ }
     ensures { λ r. ⌜ Gives r (λ kept. proceed (rejectRule reason (core .pending .submission) (bookOf core kept))) ⌝ }
 {
@@ -178,7 +178,7 @@ pub fn storm(core: Core, receipt: Receipt, now: u64) -> Outcome
 }
 
 // The order failed: its receipt, then a trip.
-pub fn fail(core: Core, reason: Reason, progress: Progress) -> Outcome
+fn fail(core: Core, reason: Reason, progress: Progress) -> Outcome
     requires { ⌜ Sound core ⌝ }
     ensures { λ r. ⌜ Gives r (λ kept. proceed (failRule (core .carrying .capability) reason (progressOf progress) (core .pending .submission) (bookOf core kept))) ⌝ }
 {

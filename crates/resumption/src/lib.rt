@@ -205,7 +205,7 @@ pub fn opening_tick(core: Core, now: u64) -> Outcome
 // resumption -----------------------------------------------------------------------------------------------------------
 
 // What follows the trip in hand.
-pub fn after_trip(core: Core) -> Outcome
+fn after_trip(core: Core) -> Outcome
     requires { ⌜ Sound core ⌝ }
     ensures { λ r. ⌜ Gives r (λ kept. proceed (afterTrip (core .falling .«after_trip») (core .falling .at) (core .falling .time) (core .pending) (core .submitted) (bookOf core kept))) ⌝ }
 {

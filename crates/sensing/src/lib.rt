@@ -24,7 +24,7 @@ ghost use Rattle.machine.specs.Machine.{activeIn, bookOf, capabilitiesOf, after
 // update_state ---------------------------------------------------------------------------------------------------------
 
 // The axis carries an order out that the flags forbid.
-pub fn is_forbidden(slot: ActiveSlot, flags: u32) -> bool
+fn is_forbidden(slot: ActiveSlot, flags: u32) -> bool
     ensures { λ r. ⌜ r ≡ holdsOf (activeIn slot) (λ a. not (permits (a .capability) flags)) ⌝ }
 {
     let presence = slot.presence;
@@ -37,7 +37,7 @@ pub fn is_forbidden(slot: ActiveSlot, flags: u32) -> bool
 }
 
 // The end of new flags: the state refreshed.
-pub fn flags_end(core: Core) -> Outcome
+fn flags_end(core: Core) -> Outcome
     requires { ⌜ Sound core ⌝ }
     ensures { λ r. ⌜ Gives r (λ kept. proceed (flagsEnd (bookOf core kept))) ⌝ }
 {
@@ -78,14 +78,14 @@ pub fn preconditions_from(core: Core, from: u8, now: u64) -> Outcome
 }
 
 // A bit of the stop mask stands in the flags.
-pub fn meets_estop(flags: u32, mask: u32) -> bool
+fn meets_estop(flags: u32, mask: u32) -> bool
     ensures { λ r. ⌜ r ≡ not (shareNoBit flags mask) ⌝ }
 {
     flags & mask != 0
 }
 
 // New flags bump the epoch; a stop bit trips, else the orders that they forbid fall back.
-pub fn new_flags(core: Core, flags: u32, now: u64) -> Outcome
+fn new_flags(core: Core, flags: u32, now: u64) -> Outcome
     requires { ⌜ Sound core ⌝ }
     ensures { λ r. ⌜ Gives r (λ kept. proceed (newFlags flags now (bookOf core kept))) ⌝ }
 {
@@ -154,7 +154,7 @@ pub fn poll_estop(core: Core, raised: u32, now: u64) -> Outcome
 // recover_local --------------------------------------------------------------------------------------------------------
 
 // The end of a recovery: Faulted and 16 where a fallback failed, else SafeIdle and no rejections counted.
-pub fn recovered(core: Core, good: bool) -> Outcome
+fn recovered(core: Core, good: bool) -> Outcome
     requires { ⌜ Sound core ⌝ }
     ensures { λ r. ⌜ Gives r (λ kept. proceed (recoveredRule good (bookOf core kept))) ⌝ }
 {

@@ -285,7 +285,7 @@ pub fn order_check(core: Core, submission: Submission) -> Check
 // What else `submit` reads ---------------------------------------------------------------------------------------------
 
 // The number of the receipt that consumed an owner's action id; 0 where none did.
-pub fn duplicate_receipt(core: Core, principal: u64, action_id: u64) -> u64
+fn duplicate_receipt(core: Core, principal: u64, action_id: u64) -> u64
     requires { ⌜ Sound core ⌝ }
     ensures { λ r. ⌜ ((kept : List Receipt) → r ≡ receiptNumber (findEntry principal «action_id» (bookOf core kept .replay))) ⌝ }
 {
