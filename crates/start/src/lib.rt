@@ -444,10 +444,9 @@ fn first_state(flags: u32, config: Config) -> RuntimeState
     RuntimeState::SafeIdle
 }
 
-// The core of a runtime that was started: no lease, no order, no receipt.
+// The core of a runtime: no lease, no order, no receipt. It is sound where the start is over; before that it is a blank.
 pub fn opened(starting: Starting) -> Core
-    requires { ⌜ StartSound starting × (starting .stage ≡ Started) ⌝ }
-    ensures { λ r. ⌜ Opened starting r ⌝ }
+    ensures { λ r. ⌜ ((StartSound starting × (starting .stage ≡ Started)) → Opened starting r) ⌝ }
 {
     let start = starting.start;
     let resources = starting.resources;

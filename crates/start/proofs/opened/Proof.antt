@@ -22,9 +22,8 @@ empty-requires c κs = search needs
 
 returns : tie.Need-returns
 unfolding bookOf opening startOf leaseIf activeIf
-returns c =
+returns c p =
     let f = c .before .before .before .before in
-    let p = f .before .before .before .before .before .pre in
     let k = started-checked _ (p .0) (p .1) in
     opens (p .1) refl
     (rw (f .first-state .ensures, c .before .before .before .blank .ensures, c .before .before .blank2 .ensures, c .empty .ensures .list, listed-few _ _ (k .few)))

@@ -1,0 +1,80 @@
+// Words of 8 bytes, little end first, read from and written to lent bytes (docs/WIRE.md): an input record is 16 words, an output record 26.
+// Promises: what is read is the definition's number of the bytes there; what is written stands at its place and nothing else is altered.
+// Rests on nothing but the language.
+ghost use mathlib.Core.Path.{_≡_};
+ghost use Prim.Native.Nat.{_+_, _%_, _≤_, _<_};
+ghost use lib.ListN.{length};
+ghost use Rattle.words.specs.Words.{halfAt, wordAt, recordAt, littleEnd, bytesOf, over};
+
+fn wide(byte: u8) -> u64
+    ensures { λ r. ⌜ r ≡ byte ⌝ }
+    ensures { λ r. ⌜ r < 256 ⌝ }
+{
+    byte as u64
+}
+
+fn half(input: &[u8], at: usize) -> u64
+    requires { ⌜ at + 4 ≤ length (now input) ⌝ }
+    ensures { λ r. ⌜ r ≡ halfAt (now (input .entry)) at ⌝ }
+    ensures { λ r. ⌜ r < 4294967296 ⌝ }
+{
+    let a = wide(input[at]);
+    let b = wide(input[at + 1]);
+    let c = wide(input[at + 2]);
+    let d = wide(input[at + 3]);
+    a + 256 * (b + 256 * (c + 256 * d))
+}
+
+fn word(input: &[u8], at: usize) -> u64
+    requires { ⌜ at + 8 ≤ length (now input) ⌝ }
+    ensures { λ r. ⌜ r ≡ wordAt (now (input .entry)) at ⌝ }
+{
+    let low = half(input, at);
+    let high = half(input, at + 4);
+    low + 4294967296 * high
+}
+
+// The words of an input record.
+pub fn record_at(input: &[u8], at: usize) -> [u64; 16]
+    requires { ⌜ at + 128 ≤ length (now input) ⌝ }
+    ensures { λ r. ⌜ r ≡ recordAt (now (input .entry)) at ⌝ }
+{
+    let mut words = [0; 16];
+    let mut i = 0;
+    while i < 16 {
+        words[i] = word(input, at + 8 * i);
+        i += 1;
+    }
+    words
+}
+
+fn low_byte(word: u64) -> u8
+    ensures { λ r. ⌜ r ≡ word % 256 ⌝ }
+{
+    (word % 256) as u8
+}
+
+fn put_word(output: &mut [u8], at: usize, word: u64)
+    requires { ⌜ at + 8 ≤ length (now output) ⌝ }
+    ensures { λ _. ⌜ now (output .exit) ≡ over (now (output .entry)) at (littleEnd 8 word) ⌝ }
+{
+    let mut rest = word;
+    let mut i = 0;
+    while i < 8 {
+        output[at + i] = low_byte(rest);
+        rest = rest / 256;
+        i += 1;
+    }
+}
+
+// Writes the words of an output record.
+pub fn put_record(output: &mut [u8], at: usize, words: [u64; 26])
+    requires { ⌜ at + 208 ≤ length (now output) ⌝ }
+    ensures { λ _. ⌜ now (output .exit) ≡ over (now (output .entry)) at (bytesOf words) ⌝ }
+{
+    let mut i = 0;
+    while i < 26 {
+        put_word(output, at + 8 * i, words[i]);
+        i += 1;
+    }
+}
