@@ -1,17 +1,14 @@
 -- Each step of the code is the rules' reaction and leaves what the next promise asks for; so its lives are the rules'. Assumes nothing.
 use mathlib.Core.List.{List, _∷_}
 use mathlib.Core.Logic.{_≢_}
-use mathlib.Core.Option.{some}
 use mathlib.Core.Path.{_≡_, refl, ap, ap₂, _∙_}
 use Rattle.model.specs.declared.Receipt.{Receipt}
-use Rattle.rules.specs.Book.{Book}
-use Rattle.rules.specs.Protocol.{Input, Reading, Reads, Value, Shows, Output, Phase, Reaction, waitBook, bookIn, read, shown as shownRule, start as startRule, effect, apply, react}
+use Rattle.rules.specs.Protocol.{Input, Reading, Reads, Value, Shows, Output, Phase, Reaction, read, shown as shownRule, start as startRule, effect, apply, react}
 use Rattle.rules.specs.Lives.{outputsFrom, phaseFrom, outputs, phaseOf as phaseAfter}
-use Rattle.machine.specs.declared.Awaited.{Awaited}
-use Rattle.machine.specs.declared.Awaited.the-variants as Awaited
 use Rattle.machine.specs.declared.Core.{Core}
 use Rattle.machine.specs.declared.Outcome.{Outcome}
-use Rattle.machine.specs.Machine.{bookOf, phaseOf, phaseAt, outputAt, keptAfter, reactionOf, Sound, Gives}
+use Rattle.machine.specs.Machine.{bookOf, phaseOf, outputAt, keptAfter, reactionOf, Sound, Gives}
+use Rattle.readings.proofs.Books.{book-at}
 use Rattle.start.specs.declared.Stage.the-variants.{Started}
 use Rattle.start.specs.declared.StartOutcome.{StartOutcome}
 use Rattle.start.specs.Starts.{startOf, startOutputAt, startReactionOf, StartSound, StartGives}
@@ -41,15 +38,6 @@ leaves g (ends e opened) =
     record { output = ap (λ r. r .output) (g .reaction); phase = k .phase ∙ ap (λ r. r .phase) (g .reaction); fit = k .sound }
 
 -- a core is read by its book, also while a reply is awaited
-book-at : (a : Awaited) (core : Core) (b : Book) → bookIn (phaseAt a core b) ≡ some b
-unfolding bookIn waitBook phaseAt
-book-at Awaited.Nothing core b = refl
-book-at Awaited.ObserveBefore core b = refl
-book-at Awaited.Execute core b = refl
-book-at Awaited.ObserveAfter core b = refl
-book-at Awaited.Fallback core b = refl
-book-at Awaited.Record core b = refl
-
 shows : (core : Core) (kept : List Receipt) (q : Reading) (v : Value) → Sound core → v ≡ read q (bookOf core kept)
     → Meets (react (phaseOf core kept) (Reads q)) (Shows v) (Running core kept)
 unfolding phaseIn react apply effect shownRule phaseOf

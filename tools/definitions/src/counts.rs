@@ -1,6 +1,6 @@
 //! What a set of lives reached: a count for all that can come up, so that a hole shows.
 
-mod catalogue;
+pub mod catalogue;
 
 use crate::lives::{Fact, Seen};
 use crate::turns::{Input, Output, Reading, Reply, Value};

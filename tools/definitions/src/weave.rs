@@ -229,7 +229,7 @@ fn every_reading(place: &Place<'_>) -> Vec<Reading> {
     all
 }
 
-fn a_reply(kind: usize, rng: &mut Prng) -> Reply {
+pub fn a_reply(kind: usize, rng: &mut Prng) -> Reply {
     let good = rng.percent(50);
     let seen = Observation {
         parameters: [rng.draw() as i32, rng.one_of([0, i32::MIN, i32::MAX])],
@@ -250,7 +250,7 @@ fn a_call(calls: &[Call], rng: &mut Prng) -> Call {
     made.unwrap_or_else(|| another_call(kind, rng))
 }
 
-fn another_call(kind: u64, rng: &mut Prng) -> Call {
+pub fn another_call(kind: u64, rng: &mut Prng) -> Call {
     let now = rng.one_of([0, 1, 1000, u64::MAX]);
     let (owner, lease_id) = (rng.range(0, 8), rng.range(0, 3));
     match kind {

@@ -36,7 +36,7 @@ pub enum Replied {
 }
 
 /// The payload of the unwinding that leaves a runtime as it is while an item is awaited.
-pub(crate) struct Awaited;
+pub struct Awaited;
 
 pub struct ScriptedDriver<'a> {
     replies: std::slice::Iter<'a, Reply>,
@@ -57,7 +57,7 @@ impl<'a> ScriptedDriver<'a> {
     }
 
     /// Unwinds in place of the reply to item `index`.
-    pub(crate) fn stopping_at(mut self, index: usize) -> Self {
+    pub fn stopping_at(mut self, index: usize) -> Self {
         self.stop_at = index;
         self
     }

@@ -289,7 +289,7 @@ pub fn apply(runtime: &mut Runtime, call: &Call, driver: &mut impl Driver) -> An
 
 const _: () = assert!(!std::mem::needs_drop::<Runtime>());
 
-fn copy(runtime: &Runtime) -> Runtime {
+pub fn copy(runtime: &Runtime) -> Runtime {
     // SAFETY: `Runtime` has no `Drop` and all its fields are `Copy`, so its bytes, taken
     // twice, are two runtimes of their own.
     unsafe { std::ptr::read(runtime) }

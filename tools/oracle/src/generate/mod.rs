@@ -109,7 +109,7 @@ impl Generator {
         Life { start, steps }
     }
 
-    fn style(&self, rng: &mut Prng) -> Style {
+    pub fn style(&self, rng: &mut Prng) -> Style {
         let style = rng.weighted([
             (22, Style::Mixed),
             (12, Style::Refused),
