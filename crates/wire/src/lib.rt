@@ -45,7 +45,7 @@ fn run_records(input: &[u8], output: &mut [u8], count: usize)
 }
 
 // Answers bytes that do not fill a record.
-fn answer_short(output: &mut [u8], at: usize)
+pub fn answer_short(output: &mut [u8], at: usize)
     requires { ⌜ at + 208 ≤ length (now output) ⌝ }
     ensures { λ _. ⌜ now (output .exit) ≡ over (now (output .entry)) at (bytesOf (padded 65 0 [])) ⌝ }
 {
