@@ -8,7 +8,7 @@ folder=$(mktemp -d)
 trap 'rm -rf "$folder"' EXIT
 
 compiled() {
-    "${CC:-gcc}" -std=c11 -Wall -Wextra -Wpedantic -Werror "$here/life.c" "$archive" -o "$folder/life"
+    "${CC:-cc}" -std=c11 -Wall -Wextra -Wpedantic -Werror "$here/life.c" "$archive" -o "$folder/life"
 }
 
 if compiled && "$folder/life" >"$folder/life.txt" && diff "$here/life.txt" "$folder/life.txt"; then
