@@ -15,17 +15,12 @@ const TEXT: &str = include_str!("life.txt");
 #[test]
 fn the_program_compiles_without_a_warning() {
     let source = Path::new(env!("CARGO_MANIFEST_DIR")).join("tests/life.c");
-    let mut compiler = Command::new("gcc");
+    let mut compiler = Command::new("cc");
     compiler.args(["-std=c11", "-Wall", "-Wextra", "-Wpedantic", "-Werror"]);
     let run = compiler.arg("-fsyntax-only").arg(source).output();
-    match run {
-        Ok(run) => assert!(
-            run.status.success(),
-            "{}",
-            String::from_utf8_lossy(&run.stderr)
-        ),
-        Err(error) => println!("not compiled: gcc: {error}"),
-    }
+    let run = run.expect("the compiler that cargo links with");
+    let said = String::from_utf8_lossy(&run.stderr);
+    assert!(run.status.success(), "{said}");
 }
 
 #[test]
