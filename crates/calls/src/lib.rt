@@ -9,7 +9,6 @@ use machine::Core;
 use machine::Kind;
 use machine::Outcome;
 use machine::Pending;
-use model::Action;
 use model::LeaseRequest;
 use model::OTHER_REPLY_AWAITED;
 use model::REPLY_AWAITED;

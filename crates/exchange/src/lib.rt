@@ -40,6 +40,7 @@ use machine::Core;
 use machine::Kind;
 use machine::Outcome;
 use model::LeaseSlot;
+use model::NO_REPLY_AWAITED;
 use model::Presence;
 use model::Reason;
 use orders::Observed;
@@ -58,7 +59,7 @@ ghost use Rattle.rules.specs.Protocol.{react, Shows, OfLease, OfCapability, OfR
 ghost use Rattle.receipts.specs.Rings.{Kept, receiptsOf};
 ghost use Rattle.machine.specs.Machine.{leaseIn, bookOf, phaseOf, itemOf, outputAt, Sound, Gives};
 ghost use Rattle.start.specs.declared.Stage.the-variants.{Started};
-ghost use Rattle.start.specs.Starts.{startPhaseOf, startItem, startOutputAt, StartSound, StartGives};
+ghost use Rattle.start.specs.Starts.{startPhaseOf, startOutputAt, StartSound, StartGives};
 ghost use Rattle.orders.specs.Replies.{observationIn};
 ghost use Rattle.readings.specs.Readings.{capabilityIn};
 ghost use Rattle.format.specs.Decode.{observedOf, turnOf, readingOf};
@@ -166,7 +167,7 @@ pub fn outcome_words(kind: Kind, core: Core) -> [u64; 26]
         Kind::Submitted => receipt_words(37, 0, submitted),
         Kind::Item => item_words(core, 0),
         Kind::Reminder(number) => item_words(core, number as u64),
-        Kind::NoReplyAwaited => plain_words(5, 112),
+        Kind::NoReplyAwaited => plain_words(5, NO_REPLY_AWAITED as u64),
     }
 }
 
@@ -179,7 +180,7 @@ pub fn start_words(kind: StartKind, starting: Starting) -> [u64; 26]
         StartKind::Item => fallback_words(0, axis, Reason::Startup),
         StartKind::Reminder(number) => fallback_words(number as u64, axis, Reason::Startup),
         StartKind::Refused(number) => plain_words(3, number as u64),
-        StartKind::NoReplyAwaited => plain_words(5, 112),
+        StartKind::NoReplyAwaited => plain_words(5, NO_REPLY_AWAITED as u64),
         StartKind::NoRuntime => plain_words(4, 0),
         StartKind::Started => plain_words(2, 0),
     }

@@ -17,7 +17,7 @@ use model::RuntimeState;
 use model::Snapshot;
 use model::Submission;
 use model::Verification;
-ghost use mathlib.Core.List.{[], _∷_};
+ghost use mathlib.Core.List.{[]};
 ghost use mathlib.Core.Path.{_≡_};
 ghost use Prim.Native.Nat.{_%_};
 ghost use lib.Dec.{eqb};

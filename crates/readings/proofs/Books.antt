@@ -4,7 +4,7 @@ use mathlib.Core.Option.{some}
 use mathlib.Core.Path.{_≡_, refl}
 use Rattle.model.specs.declared.Receipt.{Receipt}
 use Rattle.rules.specs.Book.{Book}
-use Rattle.rules.specs.Protocol.{Reading, Reads, Shows, Reaction, waitBook, bookIn, read, shown, effect, apply, react}
+use Rattle.rules.specs.Protocol.{Reading, Reads, Shows, waitBook, bookIn, read, shown, effect, apply, react}
 use Rattle.machine.specs.declared.Awaited.{Awaited}
 use Rattle.machine.specs.declared.Awaited.the-variants as Awaited
 use Rattle.machine.specs.declared.Core.{Core}

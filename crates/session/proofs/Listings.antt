@@ -1,9 +1,9 @@
 -- The list that an array and a count stand for: one more, and what a start makes of it. Assumes nothing.
-use Prim.Native.Nat.{ℕ, zero, suc, _+_, _-_, _≤_, _<_, min}
+use Prim.Native.Nat.{ℕ, zero, suc, _+_, _-_, _≤_, _<_}
 use mathlib.Core.Bool.{Bool, true, false, cond, _||_}
 use mathlib.Core.List.{List, [], _∷_, _++_, append-nil}
-use mathlib.Core.Option.{Option, some}
-use mathlib.Core.Path.{_≡_, refl, sym, ap, _∙_}
+use mathlib.Core.Option.{some}
+use mathlib.Core.Path.{_≡_, refl, ap, _∙_}
 use native.Mathlib.Nat.{not-suc-le-zero, le-of-suc-le-suc}
 use native.Mathlib.Numerals.{add-one}
 use native.Mathlib.Omega.{arith}
@@ -14,7 +14,7 @@ use Rattle.model.specs.declared.Capability.{Capability}
 use Rattle.model.specs.Records.{noCapability}
 use Rattle.model.specs.Reasons.{invalidBootId, invalidConfig}
 use Rattle.rules.specs.Protocol as Protocol
-use Rattle.rules.specs.Protocol.{badConfig, refusedStart, startUnless, start as startRule, Reaction}
+use Rattle.rules.specs.Protocol.{badConfig, refusedStart, startUnless, start as startRule}
 use Rattle.start.specs.declared.Start.{Start}
 use Rattle.start.specs.Starts.{listed, startOf}
 use Rattle.session.specs.Sessions.{Listing}

@@ -2,14 +2,13 @@
 use Prim.Native.Nat.{ℕ}
 use native.Mathlib.Omega.{arith}
 use mathlib.Core.Bool.{true, false, false≢true}
-use mathlib.Core.List.{List, []}
+use mathlib.Core.List.{List}
 use mathlib.Core.Logic.{_≢_}
 use mathlib.Core.Path.{_≡_, refl, sym, ap, _∙_, subst}
 use Rattle.model.specs.declared.Capability.{Capability}
 use Rattle.model.specs.declared.Receipt.{Receipt}
 use Rattle.rules.specs.Protocol.{Phase, Reaction}
 use Rattle.rules.specs.Receipts.{keep}
-use Rattle.receipts.specs.declared.Ring.{Ring}
 use Rattle.receipts.specs.Rings.{Kept, receiptsOf}
 use Rattle.receipts.specs.Rings as Rings
 use Rattle.machine.specs.declared.Awaited.{Awaited}

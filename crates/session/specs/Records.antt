@@ -2,7 +2,7 @@
 use Prim.Native.Nat.{ℕ}
 use mathlib.Core.List.{List, [], _∷_, _++_}
 use Rattle.model.specs.declared.Capability.{Capability}
-use Rattle.rules.specs.Protocol.{Input, Output, Phase, Gone, Reaction, Start, start, react}
+use Rattle.rules.specs.Protocol.{Output, Phase, Gone, Reaction, start, react}
 use Rattle.format.specs.Decode.{Record, Lists, Starts, Feeds, Malformed}
 use Rattle.format.specs.Encode.{padded, encode}
 

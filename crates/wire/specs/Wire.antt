@@ -1,8 +1,8 @@
 -- Whole lives as bytes (docs/WIRE.md): the records of an input, the answers to them, and what is written.
-use Prim.Native.Nat.{ℕ, zero, suc, _+_, _*_, _/_, _%_, min}
+use Prim.Native.Nat.{ℕ, zero, suc, _*_, _/_, _%_, min}
 use mathlib.Core.Bool.{Bool, cond, _&&_}
 use mathlib.Core.List.{List, [], _∷_, _++_}
-use lib.Dec.{eqb, ltb}
+use lib.Dec.{ltb}
 use lib.ListN.{length}
 use Rattle.words.specs.Words.{recordAt, bytesOf}
 use Rattle.format.specs.Decode.{Record, decode}

@@ -2,7 +2,6 @@
 // definitions' answers to the decoded records, and nothing else of the output is altered; there is no condition on the bytes. Rests on
 // `session` for the records and on `words` for the bytes.
 use format::plain_words;
-use session::Session;
 use session::fresh;
 use session::step;
 use words::put_record;

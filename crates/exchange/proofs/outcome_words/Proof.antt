@@ -67,6 +67,9 @@ item-words-requires-2 c κs = search needs
 enum-told-6 : tie.Need-enum-told-6
 enum-told-6 c = search needs
 
+cast-plain-words : tie.Need-cast-plain-words
+cast-plain-words c = search needs
+
 plain-words-requires-5 : tie.Need-plain-words-requires-5
 plain-words-requires-5 c κs = search needs
 
@@ -130,6 +133,7 @@ outcome-words-spec =
     cast-item-words
     item-words-requires-2
     enum-told-6
+    cast-plain-words
     plain-words-requires-5
     returns
     returns-2

@@ -31,6 +31,9 @@ plain-words-requires c κs = search needs
 enum-told-2 : tie.Need-enum-told-2
 enum-told-2 c = search needs
 
+cast-plain-words-2 : tie.Need-cast-plain-words-2
+cast-plain-words-2 c = search needs
+
 plain-words-requires-2 : tie.Need-plain-words-requires-2
 plain-words-requires-2 c κs = search needs
 
@@ -83,6 +86,7 @@ start-words-spec =
     cast-plain-words
     plain-words-requires
     enum-told-2
+    cast-plain-words-2
     plain-words-requires-2
     enum-told-3
     plain-words-requires-3

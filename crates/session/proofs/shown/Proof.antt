@@ -5,7 +5,7 @@ use Rattle.format.specs.Encode.{encode}
 use Rattle.readings.proofs.Books.{shown-at}
 use Rattle.rules.specs.Protocol.{Phase, Reaction, Reads, react}
 use Rattle.session.specs.Records.{step, told, answerWords}
-use mathlib.Core.Path.{sym, ap, subst, _∙_}
+use mathlib.Core.Path.{sym, ap, _∙_}
 use Rattle.session.proofs.Standings.{trying-not-started, gone-not-started, is-start, is-running}
 use borrow.Author.Needs.{needs}
 use Rattle.session.proofs.shown.Statement.{statement}
