@@ -36,10 +36,11 @@ ghost use mathlib.Core.Path.{_≡_};
 ghost use mathlib.Core.List.{List};
 ghost use mathlib.Core.Option.{Option, some, none};
 ghost use Rattle.model.specs.declared.Capability.{Capability};
-ghost use Rattle.rules.specs.Admission.{firstFailing, ready as readiness, admission, validate};
+ghost use Rattle.rules.specs.Admission.{firstFailing, admission, validate as validateRule};
 ghost use Rattle.rules.specs.Protocol.{proceed};
 ghost use Rattle.rules.specs.Receipts.{bumpTo, orderReceipt, axisOr255};
 ghost use Rattle.rules.specs.Rules.{reject as rejectRule, storm as stormRule, withSequence, fail as failRule, complete as completeRule, verify as verifyRule, dispatch as dispatchRule, admit as admitRule};
+ghost use Rattle.admission.specs.Checks.{checkOf};
 ghost use Rattle.machine.specs.Machine.{bookOf, afterExecuted, Sound, Gives};
 ghost use Rattle.validation.specs.Answers.{capabilityIn};
 ghost use Rattle.orders.specs.Replies.{progressOf, observationIn};
@@ -353,7 +354,7 @@ fn with_sequence(lease: Lease, sequence: u64) -> Lease
 // Sequence and replay entry are stored before the driver is called: an order whose outcome is not known is never tried again.
 fn consume(core: Core) -> Outcome
     requires { ⌜ Sound core × ((kept : List Receipt) → firstFailing (admission (core .pending .submission) (bookOf core kept)) ≡ none) ⌝ }
-    ensures { λ r. ⌜ Gives r (λ kept. proceed (admitRule (validate (core .pending .submission) (bookOf core kept)) (core .pending .submission) (bookOf core kept))) ⌝ }
+    ensures { λ r. ⌜ Gives r (λ kept. proceed (admitRule (validateRule (core .pending .submission) (bookOf core kept)) (core .pending .submission) (bookOf core kept))) ⌝ }
 {
     let pending = core.pending;
     let submission = pending.submission;
@@ -393,30 +394,28 @@ fn consume(core: Core) -> Outcome
     }
 }
 
-// The checks after readiness; where they pass the order is taken up.
-fn check_order(core: Core) -> Outcome
-    requires { ⌜ Sound core × ((kept : List Receipt) → firstFailing (readiness (core .pending .submission .now) (bookOf core kept)) ≡ none) ⌝ }
-    ensures { λ r. ⌜ Gives r (λ kept. proceed (admitRule (validate (core .pending .submission) (bookOf core kept)) (core .pending .submission) (bookOf core kept))) ⌝ }
+// Readiness, then the checks of the order: the first that fails.
+fn validate(core: Core, submission: Submission) -> Check
+    requires { ⌜ Sound core ⌝ }
+    ensures { λ r. ⌜ ((kept : List Receipt) → r ≡ checkOf (firstFailing (admission submission (bookOf core kept)))) ⌝ }
 {
-    let pending = core.pending;
-    let submission = pending.submission;
-    let check = order_check(core, submission);
+    let check = ready(core, submission.now);
     match check {
-        Check::Passed => consume(core),
-        Check::Failed(reason) => reject(core, reason),
+        Check::Passed => order_check(core, submission),
+        Check::Failed(reason) => Check::Failed(reason),
     }
 }
 
 // The order in hand after its opening tick: `validate`, then a rejection or the first observation.
 pub fn submit_after_tick(core: Core) -> Outcome
     requires { ⌜ Sound core ⌝ }
-    ensures { λ r. ⌜ Gives r (λ kept. proceed (admitRule (validate (core .pending .submission) (bookOf core kept)) (core .pending .submission) (bookOf core kept))) ⌝ }
+    ensures { λ r. ⌜ Gives r (λ kept. proceed (admitRule (validateRule (core .pending .submission) (bookOf core kept)) (core .pending .submission) (bookOf core kept))) ⌝ }
 {
     let pending = core.pending;
     let submission = pending.submission;
-    let check = ready(core, submission.now);
+    let check = validate(core, submission);
     match check {
-        Check::Passed => check_order(core),
+        Check::Passed => consume(core),
         Check::Failed(reason) => reject(core, reason),
     }
 }

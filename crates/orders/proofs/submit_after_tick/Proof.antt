@@ -2,21 +2,21 @@ use mathlib.Core.Path.{sym, ap, _∙_}
 use Rattle.rules.specs.Protocol.{proceed}
 use Rattle.machine.specs.Machine.{bookOf}
 use Rattle.machine.proofs.Steps.{gives-by}
-use Rattle.admission.proofs.Checks.{none-failed}
-use Rattle.orders.proofs.Orders.{refuses, unready}
+use Rattle.admission.proofs.Checks.{none-failed, some-failed}
+use Rattle.orders.proofs.Orders.{refuses}
 use borrow.Author.Needs.{needs}
 use Rattle.orders.proofs.submit_after_tick.Statement.{statement}
 use Rattle.orders.proofs.submit_after_tick.Tie as tie
 
-ready-requires : tie.Need-ready-requires
-ready-requires c κs = search needs
+validate-requires : tie.Need-validate-requires
+validate-requires c κs = search needs
 
 enum-told : tie.Need-enum-told
 enum-told c = search needs
 
-check-order-requires : tie.Need-check-order-requires
-check-order-requires c κs =
-    (c .before .before .before .before .before .pre, λ kept. none-failed _ (sym (c .enum-told .given .1) ∙ c .before .before .ready .ensures kept))
+consume-requires : tie.Need-consume-requires
+consume-requires c κs =
+    (c .before .before .before .before .before .pre, λ kept. none-failed _ (sym (c .enum-told .given .1) ∙ c .before .before .validate .ensures kept))
 
 enum-known-check : tie.Need-enum-known-check
 enum-known-check c = search needs
@@ -25,7 +25,7 @@ reject-requires : tie.Need-reject-requires
 reject-requires c κs = search needs
 
 returns : tie.Need-returns
-returns c = c .check-order .ensures
+returns c = c .consume .ensures
 
 returns-2 : tie.Need-returns-2
 returns-2 c =
@@ -34,16 +34,8 @@ returns-2 c =
     (λ kept.
     ap proceed
     (refuses (a .core .pending .submission) (bookOf (a .core) kept) _
-    (unready (a .core .pending .submission) (bookOf (a .core) kept) _ (sym (c .before .before .check .given .1) ∙ c .before .before .before .before .ready .ensures kept))))
+    (some-failed _ _ (sym (c .before .before .check .given .1) ∙ c .before .before .before .before .validate .ensures kept))))
 
 pub submit-after-tick-spec : {M : Type 1} → statement M
 submit-after-tick-spec =
-    tie.close
-    (tie.spec
-    ready-requires
-    enum-told
-    check-order-requires
-    enum-known-check
-    reject-requires
-    returns
-    returns-2)
+    tie.close (tie.spec validate-requires enum-told consume-requires enum-known-check reject-requires returns returns-2)
