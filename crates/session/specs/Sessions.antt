@@ -1,23 +1,15 @@
 -- What a session stands for, and what its functions promise.
 use Prim.Native.Nat.{ℕ, _≤_, min}
-use mathlib.Core.Bool.{Bool, true, false}
 use mathlib.Core.List.{List}
 use mathlib.Core.Path.{_≡_}
 use lib.ListN.{length, take}
 use Rattle.model.specs.declared.Capability.{Capability}
-use Rattle.model.specs.declared.Receipt.{Receipt}
 use Rattle.rules.specs.Protocol.{Phase}
 use Rattle.receipts.specs.Rings.{Kept, receiptsOf}
-use Rattle.machine.specs.declared.Awaited.{Awaited}
-use Rattle.machine.specs.declared.Awaited.the-variants as Awaited
-use Rattle.machine.specs.declared.Core.{Core}
-use Rattle.machine.specs.declared.Kind.{Kind}
-use Rattle.machine.specs.declared.Kind.the-variants as Kind
-use Rattle.machine.specs.Machine.{phaseOf, Sound}
-use Rattle.start.specs.declared.Stage.{Stage}
+use Rattle.machine.specs.Machine.{Sound}
 use Rattle.start.specs.declared.Stage.the-variants as Stage
-use Rattle.start.specs.declared.Starting.{Starting}
-use Rattle.start.specs.Starts.{startPhaseOf, StartSound}
+use Rattle.start.specs.Starts.{StartSound}
+use Rattle.steps.specs.Runtimes.{phaseAt}
 use Rattle.session.specs.declared.Session.{Session}
 use Rattle.session.specs.declared.Turn.{Turn}
 use Rattle.session.specs.Records.{Standing, Step, answerWords}
@@ -28,12 +20,7 @@ pub record Listing (count : ℕ) (array l : List Capability) : Type 0 where
   pub counted : count ≡ min 17 (length l)
   pub same : length l ≤ 16 → take count array ≡ l
 
--- the phase: of the start, or of the runtime that it has left
-unfoldable pub phaseAt : Stage → Starting → Core → List Receipt → Phase
-phaseAt Stage.Trying s core kept = startPhaseOf s
-phaseAt Stage.Gone s core kept = startPhaseOf s
-phaseAt Stage.Started s core kept = phaseOf core kept
-
+-- where it stands: the start, or the runtime that it has left
 abbrev pub phaseIn : Session → Phase
 phaseIn s = phaseAt (s .starting .stage) (s .starting) (s .core) (receiptsOf (s .ring))
 
@@ -52,23 +39,3 @@ pub record Answers (t : Turn) (x : Step) : Type 0 where
   pub words : t .words ≡ answerWords (x .answer)
   pub stands : Stands (t .session) (x .standing)
   pub sound : SessionSound (t .session)
-
--- whether an outcome hands out a record item, whose receipt is kept
-unfoldable pub storesAt : Awaited → Bool
-storesAt Awaited.Nothing = false
-storesAt Awaited.ObserveBefore = false
-storesAt Awaited.Execute = false
-storesAt Awaited.ObserveAfter = false
-storesAt Awaited.Fallback = false
-storesAt Awaited.Record = true
-
-unfoldable pub stores : Kind → Awaited → Bool
-stores Kind.Returned w = false
-stores (Kind.Polled seen) w = false
-stores Kind.Succeeded w = false
-stores Kind.Leased w = false
-stores (Kind.Refused reason) w = false
-stores Kind.Submitted w = false
-stores Kind.Item w = storesAt w
-stores (Kind.Reminder number) w = false
-stores Kind.NoReplyAwaited w = false

@@ -14,9 +14,7 @@ use format::capability_of;
 use format::config_of;
 use format::kind_of;
 use format::plain_words;
-use machine::Awaited;
 use machine::Core;
-use machine::Kind;
 use machine::Outcome;
 use model::Capability;
 use model::Config;
@@ -29,6 +27,7 @@ use start::Starting;
 use start::new;
 use start::opened;
 use start::start_read;
+use steps::stores;
 ghost use mathlib.Core.List.{List};
 ghost use mathlib.Core.Path.{_≡_};
 ghost use Rattle.rules.specs.Protocol.{Reaction, Reads};
@@ -38,7 +37,7 @@ ghost use Rattle.start.specs.declared.Stage.the-variants.{Started};
 ghost use Rattle.start.specs.Starts.{StartGives};
 ghost use Rattle.format.specs.Decode.{word, u32At, configOf, turnOf, readingOf, Lists, Starts, Feeds, Malformed, decode};
 ghost use Rattle.session.specs.Records.{Standing, opening, told, step as stepRule};
-ghost use Rattle.session.specs.Sessions.{Listing, Stands, SessionSound, Answers, storesAt, stores as storesOf};
+ghost use Rattle.session.specs.Sessions.{Listing, Stands, SessionSound, Answers};
 ghost use Rattle.model.specs.declared.Receipt.{Receipt};
 
 pub struct Session {
@@ -146,36 +145,6 @@ fn begin(session: Session, words: [u64; 16]) -> Turn
     };
     next.count = 0;
     begun(next, new(start))
-}
-
-// An outcome hands out a record item, whose receipt is kept.
-fn stores_at(awaited: Awaited) -> bool
-    ensures { λ r. ⌜ r ≡ storesAt awaited ⌝ }
-{
-    match awaited {
-        Awaited::Nothing => false,
-        Awaited::ObserveBefore => false,
-        Awaited::Execute => false,
-        Awaited::ObserveAfter => false,
-        Awaited::Fallback => false,
-        Awaited::Record => true,
-    }
-}
-
-fn stores(kind: Kind, awaited: Awaited) -> bool
-    ensures { λ r. ⌜ r ≡ storesOf kind awaited ⌝ }
-{
-    match kind {
-        Kind::Returned => false,
-        Kind::Polled(_) => false,
-        Kind::Succeeded => false,
-        Kind::Leased => false,
-        Kind::Refused(_) => false,
-        Kind::Submitted => false,
-        Kind::Item => stores_at(awaited),
-        Kind::Reminder(_) => false,
-        Kind::NoReplyAwaited => false,
-    }
 }
 
 // Where a call or a reply leaves the session.

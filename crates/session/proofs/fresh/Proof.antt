@@ -1,4 +1,4 @@
-use Rattle.session.specs.Sessions.{phaseAt}
+use Rattle.steps.specs.Runtimes.{phaseAt}
 use Rattle.start.specs.Starts.{startPhaseAt, SoundAt}
 use mathlib.Core.Path.{refl}
 use Rattle.session.proofs.Standings.{gone-not-started}

@@ -1,6 +1,7 @@
 use mathlib.Core.Path.{refl, sym, _∙_}
 use Rattle.receipts.specs.Rings.{receiptsOf}
-use Rattle.session.proofs.Standings.{after-when, after-unless, moves}
+use Rattle.steps.proofs.Outcomes.{after-when, after-unless}
+use Rattle.session.proofs.Standings.{moves}
 use borrow.Author.Needs.{needs}
 use Rattle.session.proofs.moved.Statement.{statement}
 use Rattle.session.proofs.moved.Tie as tie

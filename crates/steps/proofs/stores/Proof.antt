@@ -1,7 +1,7 @@
-use Rattle.session.specs.Sessions.{stores}
+use Rattle.steps.specs.Runtimes.{stores}
 use borrow.Author.Needs.{needs}
-use Rattle.session.proofs.stores.Statement.{statement}
-use Rattle.session.proofs.stores.Tie as tie
+use Rattle.steps.proofs.stores.Statement.{statement}
+use Rattle.steps.proofs.stores.Tie as tie
 
 enum-told : tie.Need-enum-told
 enum-told c = search needs

@@ -1,7 +1,7 @@
-use Rattle.session.specs.Sessions.{storesAt}
+use Rattle.steps.specs.Runtimes.{storesAt}
 use borrow.Author.Needs.{needs}
-use Rattle.session.proofs.stores_at.Statement.{statement}
-use Rattle.session.proofs.stores_at.Tie as tie
+use Rattle.steps.proofs.stores_at.Statement.{statement}
+use Rattle.steps.proofs.stores_at.Tie as tie
 
 enum-told : tie.Need-enum-told
 enum-told c = search needs

@@ -1,0 +1,29 @@
+use Rattle.steps.specs.Runtimes.{isStarted}
+use borrow.Author.Needs.{needs}
+use Rattle.steps.proofs.is_started.Statement.{statement}
+use Rattle.steps.proofs.is_started.Tie as tie
+
+enum-told : tie.Need-enum-told
+enum-told c = search needs
+
+enum-told-2 : tie.Need-enum-told-2
+enum-told-2 c = search needs
+
+enum-told-3 : tie.Need-enum-told-3
+enum-told-3 c = search needs
+
+returns : tie.Need-returns
+unfolding isStarted
+returns c = simp (c .enum-told .given .1)
+
+returns-2 : tie.Need-returns-2
+unfolding isStarted
+returns-2 c = simp (c .enum-told2 .given .1)
+
+returns-3 : tie.Need-returns-3
+unfolding isStarted
+returns-3 c = simp (c .enum-told3 .given .1)
+
+pub is-started-spec : {M : Type 1} → statement M
+is-started-spec =
+    tie.close (tie.spec enum-told enum-told-2 enum-told-3 returns returns-2 returns-3)

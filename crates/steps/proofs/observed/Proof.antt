@@ -1,0 +1,36 @@
+use Rattle.start.specs.Starts.{isOther}
+use mathlib.Core.Path.{sym, _∙_, refl}
+use Rattle.steps.proofs.Standings.{is-started, turns-started}
+use borrow.Author.Needs.{needs}
+use Rattle.steps.proofs.observed.Statement.{statement}
+use Rattle.steps.proofs.observed.Tie as tie
+
+is-started-requires : tie.Need-is-started-requires
+is-started-requires c κs = search needs
+
+observed-requires : tie.Need-observed-requires
+observed-requires c κs = c .before .before .pre .sound (is-started _ (sym (c .before .is-started .ensures) ∙ c .if1 .taken))
+
+settled-requires : tie.Need-settled-requires
+settled-requires c κs = search needs
+
+returns : tie.Need-returns
+returns c = turns-started (sym (c .before .before .before .is-started .ensures) ∙ c .before .before .if1 .taken) (c .settled .ensures) (c .before .observed .ensures)
+
+replied-requires : tie.Need-replied-requires
+replied-requires c κs = search needs
+
+returns-2 : tie.Need-returns-2
+unfolding isOther
+returns-2 c = c .replied .ensures _ refl (sym (c .before .before .is-started .ensures) ∙ c .before .if1 .left)
+
+pub observed-spec : {M : Type 1} → statement M
+observed-spec =
+    tie.close
+    (tie.spec
+    is-started-requires
+    observed-requires
+    settled-requires
+    returns
+    replied-requires
+    returns-2)

@@ -1,0 +1,205 @@
+-- What a runtime stands for, and what a step on its parts promises.
+use Prim.Native.Nat.{ℕ, _<_}
+use mathlib.Core.Bool.{Bool, true, false}
+use mathlib.Core.List.{List, []}
+use mathlib.Core.Path.{_≡_}
+use lib.ListN.{length, take, set}
+use Rattle.model.specs.declared.Receipt.{Receipt}
+use Rattle.model.specs.Reasons.{noReplyAwaited}
+use Rattle.rules.specs.Interaction.{Returned, Polled, Succeeded, Leased, Refused, Submitted}
+use Rattle.rules.specs.Protocol as Protocol
+use Rattle.rules.specs.Protocol.{Input, Output, StartRefused, Hands, Reminds, Refuses, Answers, Phase, Reaction, react}
+use Rattle.receipts.specs.Indexes.{Stores, listOf}
+use Rattle.receipts.specs.Indexes as Indexes
+use Rattle.rules.specs.Receipts.{keep}
+use Rattle.machine.specs.declared.Awaited.{Awaited}
+use Rattle.machine.specs.declared.Awaited.the-variants as Awaited
+use Rattle.machine.specs.declared.Core.{Core}
+use Rattle.machine.specs.declared.Kind.{Kind}
+use Rattle.machine.specs.declared.Kind.the-variants as Kind
+use Rattle.machine.specs.declared.Outcome.{Outcome}
+use Rattle.machine.specs.Machine.{phaseOf, itemOf, keptAfter, Sound}
+use Rattle.start.specs.declared.Stage.{Stage}
+use Rattle.start.specs.declared.Stage.the-variants as Stage
+use Rattle.start.specs.declared.Starting.{Starting}
+use Rattle.start.specs.declared.StartKind.{StartKind}
+use Rattle.start.specs.declared.StartKind.the-variants as StartKind
+use Rattle.start.specs.declared.StartOutcome.{StartOutcome}
+use Rattle.start.specs.Starts.{startPhaseOf, startItem, StartSound, Opened}
+use Rattle.steps.specs.declared.Answer.{Answer}
+use Rattle.steps.specs.declared.Answer.the-variants as Answer
+use Rattle.steps.specs.declared.Places.{Places}
+use Rattle.steps.specs.declared.Placement.{Placement}
+use Rattle.steps.specs.declared.Runtime.{Runtime}
+use Rattle.steps.specs.declared.StartStep.{StartStep}
+use Rattle.steps.specs.declared.Step.{Step}
+
+-- the receipts ----------------------------------------------------------------------------------------------------------
+
+-- the last of the 65 slots takes what is not kept
+abbrev pub storesOf : Places → List Receipt → Stores
+storesOf p slots = record { rejections = p .rejected; others = p .others; receipts = take 64 slots }
+
+-- what the places are under over the slots
+pub record Kept (p : Places) (slots : List Receipt) : Type 0 where
+  pub room : length slots ≡ 65
+  pub sound : Indexes.Sound (p .index) (storesOf p slots)
+
+-- there are slots that the places are kept over
+pub record Placed (p : Places) : Type 0 where
+  pub slots : List Receipt
+  pub kept : Kept p slots
+
+-- the receipts kept, oldest first
+abbrev pub receiptsOf : Places → List Receipt → List Receipt
+receiptsOf p slots = listOf (p .index) (storesOf p slots)
+
+-- one more receipt: in its slot, the rule of 01
+pub record Placing (before : Places) (r : Receipt) (after : Placement) : Type 0 where
+  pub inside : after .slot < 64
+  pub kept : (slots : List Receipt) → Kept before slots → Kept (after .places) (set slots (after .slot) r)
+  pub keeps : (slots : List Receipt) → Kept before slots
+      → receiptsOf (after .places) (set slots (after .slot) r) ≡ keep 64 (receiptsOf before slots) r
+
+-- where a runtime stands ---------------------------------------------------------------------------------------------------
+
+-- the phase: of the start, or of the runtime that it has left
+unfoldable pub phaseAt : Stage → Starting → Core → List Receipt → Phase
+phaseAt Stage.Trying s core kept = startPhaseOf s
+phaseAt Stage.Gone s core kept = startPhaseOf s
+phaseAt Stage.Started s core kept = phaseOf core kept
+
+abbrev pub phaseIn : Runtime → Phase
+phaseIn rt = phaseAt (rt .starting .stage) (rt .starting) (rt .core) (receiptsOf (rt .places) (rt .slots))
+
+-- the one condition on a runtime: what `new` sets up and every call and reply keeps
+pub record RuntimeSound (rt : Runtime) : Type 0 where
+  pub starting : StartSound (rt .starting)
+  pub core : rt .starting .stage ≡ Stage.Started → Sound (rt .core)
+  pub kept : Kept (rt .places) (rt .slots)
+
+-- what comes out -------------------------------------------------------------------------------------------------------------
+
+unfoldable pub answerOf : Kind → Answer
+answerOf Kind.Returned = Answer.Returned
+answerOf (Kind.Polled seen) = Answer.Polled seen
+answerOf Kind.Succeeded = Answer.Succeeded
+answerOf Kind.Leased = Answer.Leased
+answerOf (Kind.Refused reason) = Answer.Refused reason
+answerOf Kind.Submitted = Answer.Submitted
+answerOf Kind.Item = Answer.Item
+answerOf (Kind.Reminder number) = Answer.Reminder number
+answerOf Kind.NoReplyAwaited = Answer.NoReplyAwaited
+
+-- 01's output, by the answer and what is stored with it
+unfoldable pub outputAt : Answer → Starting → Core → Output
+outputAt Answer.Returned s core = Answers Returned
+outputAt (Answer.Polled seen) s core = Answers (Polled seen)
+outputAt Answer.Succeeded s core = Answers Succeeded
+outputAt Answer.Leased s core = Answers (Leased (core .lease))
+outputAt (Answer.Refused reason) s core = Answers (Refused reason)
+outputAt Answer.Submitted s core = Answers (Submitted (core .submitted))
+outputAt Answer.Item s core = Hands (itemOf core)
+outputAt (Answer.Reminder number) s core = Reminds number (itemOf core)
+outputAt Answer.NoReplyAwaited s core = Refuses noReplyAwaited
+outputAt Answer.StartItem s core = Hands (startItem s)
+outputAt (Answer.StartReminder number) s core = Reminds number (startItem s)
+outputAt (Answer.StartRefused number) s core = StartRefused number
+outputAt Answer.NoRuntime s core = Protocol.NoRuntime
+outputAt Answer.Started s core = Protocol.Started
+
+unfoldable pub startAnswerOf : StartKind → Answer
+startAnswerOf StartKind.Item = Answer.StartItem
+startAnswerOf (StartKind.Reminder number) = Answer.StartReminder number
+startAnswerOf (StartKind.Refused number) = Answer.StartRefused number
+startAnswerOf StartKind.NoReplyAwaited = Answer.NoReplyAwaited
+startAnswerOf StartKind.NoRuntime = Answer.NoRuntime
+startAnswerOf StartKind.Started = Answer.Started
+
+unfoldable pub isStarted : Stage → Bool
+isStarted Stage.Trying = false
+isStarted Stage.Gone = false
+isStarted Stage.Started = true
+
+-- whether an outcome hands out a record item, whose receipt is kept
+unfoldable pub storesAt : Awaited → Bool
+storesAt Awaited.Nothing = false
+storesAt Awaited.ObserveBefore = false
+storesAt Awaited.Execute = false
+storesAt Awaited.ObserveAfter = false
+storesAt Awaited.Fallback = false
+storesAt Awaited.Record = true
+
+unfoldable pub stores : Kind → Awaited → Bool
+stores Kind.Returned w = false
+stores (Kind.Polled seen) w = false
+stores Kind.Succeeded w = false
+stores Kind.Leased w = false
+stores (Kind.Refused reason) w = false
+stores Kind.Submitted w = false
+stores Kind.Item w = storesAt w
+stores (Kind.Reminder number) w = false
+stores Kind.NoReplyAwaited w = false
+
+-- promises -----------------------------------------------------------------------------------------------------------------
+
+-- a runtime with a step stored
+abbrev pub after : Runtime → Step → Runtime
+after rt s = record { starting = rt .starting; core = s .core; places = s .places; slots = set (rt .slots) (s .slot) (s .receipt) }
+
+-- what an outcome leaves to be stored
+pub record Settles (places : Places) (o : Outcome) (s : Step) : Type 0 where
+  pub answer : s .answer ≡ answerOf (o .kind)
+  pub core : s .core ≡ o .core
+  pub inside : s .slot < 65
+  pub kept : (slots : List Receipt) → Kept places slots → Kept (s .places) (set slots (s .slot) (s .receipt))
+  pub keeps : (slots : List Receipt) → Kept places slots
+      → receiptsOf (s .places) (set slots (s .slot) (s .receipt)) ≡ keptAfter (o .kind) (o .core) (receiptsOf places slots)
+
+-- what is demanded of the parts of a runtime
+pub record Ready (stage : Stage) (core : Core) (places : Places) : Type 0 where
+  pub sound : stage ≡ Stage.Started → Sound core
+  pub placed : Placed places
+
+-- what is left as it was, with an answer
+abbrev pub stay : Core → Places → Answer → Step
+stay core places answer = record { answer = answer; core = core; places = places; slot = 64; receipt = core .receipt }
+
+-- where a runtime is left, given what the rules say
+pub record Moves (rt : Runtime) (answer : Answer) (x : Reaction) : Type 0 where
+  pub output : outputAt answer (rt .starting) (rt .core) ≡ x .output
+  pub phase : phaseIn rt ≡ x .phase
+  pub sound : RuntimeSound rt
+
+-- what a step promises of the runtime whose parts it was given
+pub record Turns (stage : Stage) (core : Core) (places : Places) (i : Input) (s : Step) : Type 0 where
+  pub inside : s .slot < 65
+  pub moves : (rt : Runtime) → rt .starting .stage ≡ stage → rt .core ≡ core → rt .places ≡ places → RuntimeSound rt
+      → Moves (after rt s) (s .answer) (react (phaseIn rt) i)
+
+-- the start's own replies ----------------------------------------------------------------------------------------------------
+
+-- a runtime with such a step stored
+abbrev pub afterStart : Runtime → StartStep → Runtime
+afterStart rt s = record { starting = s .starting; core = s .core; places = s .places; slots = set (rt .slots) (s .slot) (s .receipt) }
+
+unfoldable pub withStart : Starting → Step → StartStep
+withStart g s = record { answer = s .answer; starting = g; core = s .core; places = s .places; slot = s .slot; receipt = s .receipt }
+
+-- no receipt is kept, whatever stands in the slots
+pub record Empties (p : Places) : Type 0 where
+  pub kept : (slots : List Receipt) → length slots ≡ 65 → Kept p slots
+  pub nothing : (slots : List Receipt) → receiptsOf p slots ≡ []
+
+-- what a start leaves to be stored
+pub record Begins (o : StartOutcome) (s : StartStep) : Type 0 where
+  pub answer : s .answer ≡ startAnswerOf (o .kind)
+  pub starting : s .starting ≡ o .starting
+  pub opened : (StartSound (o .starting) × (o .starting .stage ≡ Stage.Started)) → Opened (o .starting) (s .core)
+  pub empty : Empties (s .places)
+  pub aside : s .slot ≡ 64
+
+pub record StartTurns (starting : Starting) (core : Core) (places : Places) (i : Input) (s : StartStep) : Type 0 where
+  pub inside : s .slot < 65
+  pub moves : (rt : Runtime) → rt .starting ≡ starting → rt .core ≡ core → rt .places ≡ places → RuntimeSound rt
+      → Moves (afterStart rt s) (s .answer) (react (phaseIn rt) i)

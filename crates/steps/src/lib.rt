@@ -1,0 +1,437 @@
+// A call or a reply on the parts of a runtime, by value: what `runtime` stores in place. A step hands back the core, the places of the
+// receipts and the slot that a receipt goes to, so that the receipts themselves are never copied. Promises: with that stored, the runtime stands
+// where the rules' `react` says, and is sound. Rests on `calls` and `start` for what happens, and on `receipts` for where a receipt goes.
+use machine::Awaited;
+use machine::Core;
+use machine::Kind;
+use machine::Outcome;
+use model::LeaseRequest;
+use model::OTHER_REPLY_AWAITED;
+use model::REPLY_AWAITED;
+use model::Reason;
+use model::Receipt;
+use model::Renewal;
+use model::Submission;
+use orders::Observed;
+use receipts::Index;
+use receipts::is_rejected;
+use receipts::push;
+use start::Stage;
+use start::StartKind;
+use start::StartOutcome;
+use start::Starting;
+use start::opened;
+use start::start_fell_back;
+ghost use mathlib.Core.Bool.{true, false};
+ghost use mathlib.Core.Path.{_≡_};
+ghost use Rattle.rules.specs.Protocol.{Calls, Tick, UpdateState, EmergencyStop, PollEstop, RecoverLocal, Acquire, Renew, Cancel, Submit, Replies, Observed as ObservedReply, Executed, FellBack, Recorded, Call, Reply};
+ghost use Rattle.start.specs.Starts.{isOther, StartSound};
+ghost use Rattle.orders.specs.Replies.{observationIn};
+ghost use Rattle.steps.specs.Runtimes.{answerOf, isStarted, storesAt, stores as storesOf, Placed, Placing, Settles, Ready, stay, Turns, startAnswerOf, Empties, Begins, withStart, StartTurns};
+
+// All of the ring of receipts but its slots: the index, and the slot numbers at the places of the two circles.
+pub struct Places {
+    pub index: Index,
+    pub rejected: [u8; 64],
+    pub others: [u8; 64],
+}
+
+// The start, the core that it opens, and the receipts: 64 slots, and one that takes what is not kept.
+pub struct Runtime {
+    pub starting: Starting,
+    pub core: Core,
+    pub places: Places,
+    pub slots: [Receipt; 65],
+}
+
+// What a call or a reply is answered: as a core answers it, then as a start does.
+pub enum Answer {
+    Returned,
+    Polled(bool),
+    Succeeded,
+    Leased,
+    Refused(Reason),
+    Submitted,
+    Item,
+    Reminder(u16),
+    NoReplyAwaited,
+    StartItem,
+    StartReminder(u16),
+    StartRefused(u16),
+    NoRuntime,
+    Started,
+}
+
+// What is to be stored: the core, the places, and a receipt with its slot; 64 where none is kept.
+pub struct Step {
+    pub answer: Answer,
+    pub core: Core,
+    pub places: Places,
+    pub slot: usize,
+    pub receipt: Receipt,
+}
+
+// The same, with the start: what a fallback's reply leaves to be stored.
+pub struct StartStep {
+    pub answer: Answer,
+    pub starting: Starting,
+    pub core: Core,
+    pub places: Places,
+    pub slot: usize,
+    pub receipt: Receipt,
+}
+
+// The places with one more receipt, and the slot that it goes to.
+struct Placement {
+    places: Places,
+    slot: usize,
+}
+
+fn answer_of(kind: Kind) -> Answer
+    ensures { λ r. ⌜ r ≡ answerOf kind ⌝ }
+{
+    match kind {
+        Kind::Returned => Answer::Returned,
+        Kind::Polled(seen) => Answer::Polled(seen),
+        Kind::Succeeded => Answer::Succeeded,
+        Kind::Leased => Answer::Leased,
+        Kind::Refused(reason) => Answer::Refused(reason),
+        Kind::Submitted => Answer::Submitted,
+        Kind::Item => Answer::Item,
+        Kind::Reminder(number) => Answer::Reminder(number),
+        Kind::NoReplyAwaited => Answer::NoReplyAwaited,
+    }
+}
+
+fn start_answer_of(kind: StartKind) -> Answer
+    ensures { λ r. ⌜ r ≡ startAnswerOf kind ⌝ }
+{
+    match kind {
+        StartKind::Item => Answer::StartItem,
+        StartKind::Reminder(number) => Answer::StartReminder(number),
+        StartKind::Refused(number) => Answer::StartRefused(number),
+        StartKind::NoReplyAwaited => Answer::NoReplyAwaited,
+        StartKind::NoRuntime => Answer::NoRuntime,
+        StartKind::Started => Answer::Started,
+    }
+}
+
+fn is_started(stage: Stage) -> bool
+    ensures { λ r. ⌜ r ≡ isStarted stage ⌝ }
+{
+    match stage {
+        Stage::Trying => false,
+        Stage::Gone => false,
+        Stage::Started => true,
+    }
+}
+
+// An outcome hands out a record item, whose receipt is kept.
+fn stores_at(awaited: Awaited) -> bool
+    ensures { λ r. ⌜ r ≡ storesAt awaited ⌝ }
+{
+    match awaited {
+        Awaited::Nothing => false,
+        Awaited::ObserveBefore => false,
+        Awaited::Execute => false,
+        Awaited::ObserveAfter => false,
+        Awaited::Fallback => false,
+        Awaited::Record => true,
+    }
+}
+
+pub fn stores(kind: Kind, awaited: Awaited) -> bool
+    ensures { λ r. ⌜ r ≡ storesOf kind awaited ⌝ }
+{
+    match kind {
+        Kind::Returned => false,
+        Kind::Polled(_) => false,
+        Kind::Succeeded => false,
+        Kind::Leased => false,
+        Kind::Refused(_) => false,
+        Kind::Submitted => false,
+        Kind::Item => stores_at(awaited),
+        Kind::Reminder(_) => false,
+        Kind::NoReplyAwaited => false,
+    }
+}
+
+// Where one more receipt goes (runtime.rs: `record`).
+fn placed(places: Places, receipt: Receipt) -> Placement
+    requires { ⌜ Placed places ⌝ }
+    ensures { λ r. ⌜ Placing places receipt r ⌝ }
+{
+    let index = places.index;
+    let mut rejected = places.rejected;
+    let mut others = places.others;
+    let rejected_head = index.rejected.head;
+    let others_head = index.others.head;
+    let decision = receipt.decision;
+    let is_rejection = is_rejected(decision);
+    let pushed = push(
+        index,
+        is_rejection,
+        rejected[rejected_head],
+        others[others_head],
+    );
+    let next = pushed.index;
+    let slot = pushed.slot;
+    let place = pushed.place;
+    if is_rejection {
+        rejected[place] = slot as u8;
+    } else {
+        others[place] = slot as u8;
+    }
+    Placement {
+        places: Places {
+            index: next,
+            rejected: rejected,
+            others: others,
+        },
+        slot: slot,
+    }
+}
+
+// Nothing is stored but the answer.
+fn stays(core: Core, places: Places, answer: Answer) -> Step
+    ensures { λ r. ⌜ r ≡ stay core places answer ⌝ }
+{
+    let receipt = core.receipt;
+    Step {
+        answer: answer,
+        core: core,
+        places: places,
+        slot: 64,
+        receipt: receipt,
+    }
+}
+
+// What an outcome leaves to be stored.
+fn settled(places: Places, outcome: Outcome) -> Step
+    requires { ⌜ Placed places ⌝ }
+    ensures { λ r. ⌜ Settles places outcome r ⌝ }
+{
+    let kind = outcome.kind;
+    let core = outcome.core;
+    let waiting = core.waiting;
+    let awaited = waiting.awaited;
+    let receipt = core.receipt;
+    let answer = answer_of(kind);
+    if stores(kind, awaited) {
+        let kept = placed(places, receipt);
+        let next = kept.places;
+        return Step {
+            answer: answer,
+            core: core,
+            places: next,
+            slot: kept.slot,
+            receipt: receipt,
+        };
+    }
+    stays(core, places, answer)
+}
+
+// A call while there is no runtime.
+fn called(stage: Stage, core: Core, places: Places) -> Step
+    ensures { λ r. ⌜ ((call : Call) → isStarted stage ≡ false → Turns stage core places (Calls call) r) ⌝ }
+{
+    match stage {
+        Stage::Trying => stays(core, places, Answer::StartReminder(REPLY_AWAITED)),
+        Stage::Gone => stays(core, places, Answer::NoRuntime),
+        Stage::Started => stays(core, places, Answer::NoRuntime),
+    }
+}
+
+// A reply of another kind than a fallback's while there is none.
+fn replied(stage: Stage, core: Core, places: Places) -> Step
+    ensures { λ r. ⌜ ((reply : Reply) → isOther reply ≡ true → isStarted stage ≡ false → Turns stage core places (Replies reply) r) ⌝ }
+{
+    match stage {
+        Stage::Trying => stays(core, places, Answer::StartReminder(OTHER_REPLY_AWAITED)),
+        Stage::Gone => stays(core, places, Answer::NoReplyAwaited),
+        Stage::Started => stays(core, places, Answer::NoReplyAwaited),
+    }
+}
+
+// calls ----------------------------------------------------------------------------------------------------------------
+
+pub fn tick(stage: Stage, core: Core, places: Places, now: u64) -> Step
+    requires { ⌜ Ready stage core places ⌝ }
+    ensures { λ r. ⌜ Turns stage core places (Calls (Tick now)) r ⌝ }
+{
+    if is_started(stage) {
+        return settled(places, calls::tick(core, now));
+    }
+    called(stage, core, places)
+}
+
+pub fn update_state(stage: Stage, core: Core, places: Places, flags: u32, now: u64) -> Step
+    requires { ⌜ Ready stage core places ⌝ }
+    ensures { λ r. ⌜ Turns stage core places (Calls (UpdateState flags now)) r ⌝ }
+{
+    if is_started(stage) {
+        return settled(places, calls::update_state(core, flags, now));
+    }
+    called(stage, core, places)
+}
+
+pub fn emergency_stop(stage: Stage, core: Core, places: Places, now: u64) -> Step
+    requires { ⌜ Ready stage core places ⌝ }
+    ensures { λ r. ⌜ Turns stage core places (Calls (EmergencyStop now)) r ⌝ }
+{
+    if is_started(stage) {
+        return settled(places, calls::emergency_stop(core, now));
+    }
+    called(stage, core, places)
+}
+
+pub fn poll_estop(stage: Stage, core: Core, places: Places, raised: u32, now: u64) -> Step
+    requires { ⌜ Ready stage core places ⌝ }
+    ensures { λ r. ⌜ Turns stage core places (Calls (PollEstop raised now)) r ⌝ }
+{
+    if is_started(stage) {
+        return settled(places, calls::poll_estop(core, raised, now));
+    }
+    called(stage, core, places)
+}
+
+pub fn recover_local(stage: Stage, core: Core, places: Places, now: u64) -> Step
+    requires { ⌜ Ready stage core places ⌝ }
+    ensures { λ r. ⌜ Turns stage core places (Calls (RecoverLocal now)) r ⌝ }
+{
+    if is_started(stage) {
+        return settled(places, calls::recover_local(core, now));
+    }
+    called(stage, core, places)
+}
+
+pub fn acquire(stage: Stage, core: Core, places: Places, request: LeaseRequest, now: u64) -> Step
+    requires { ⌜ Ready stage core places ⌝ }
+    ensures { λ r. ⌜ Turns stage core places (Calls (Acquire request now)) r ⌝ }
+{
+    if is_started(stage) {
+        return settled(places, calls::acquire(core, request, now));
+    }
+    called(stage, core, places)
+}
+
+pub fn renew(stage: Stage, core: Core, places: Places, renewal: Renewal) -> Step
+    requires { ⌜ Ready stage core places ⌝ }
+    ensures { λ r. ⌜ Turns stage core places (Calls (Renew renewal)) r ⌝ }
+{
+    if is_started(stage) {
+        return settled(places, calls::renew(core, renewal));
+    }
+    called(stage, core, places)
+}
+
+pub fn cancel(stage: Stage, core: Core, places: Places, owner: u64, lease_id: u64, now: u64) -> Step
+    requires { ⌜ Ready stage core places ⌝ }
+    ensures { λ r. ⌜ Turns stage core places (Calls (Cancel owner «lease_id» now)) r ⌝ }
+{
+    if is_started(stage) {
+        return settled(places, calls::cancel(core, owner, lease_id, now));
+    }
+    called(stage, core, places)
+}
+
+pub fn submit(stage: Stage, core: Core, places: Places, submission: Submission) -> Step
+    requires { ⌜ Ready stage core places ⌝ }
+    ensures { λ r. ⌜ Turns stage core places (Calls (Submit submission)) r ⌝ }
+{
+    if is_started(stage) {
+        return settled(places, calls::submit(core, submission));
+    }
+    called(stage, core, places)
+}
+
+// replies --------------------------------------------------------------------------------------------------------------
+
+pub fn observed(stage: Stage, core: Core, places: Places, reply: Observed) -> Step
+    requires { ⌜ Ready stage core places ⌝ }
+    ensures { λ r. ⌜ Turns stage core places (Replies (ObservedReply (observationIn reply))) r ⌝ }
+{
+    if is_started(stage) {
+        return settled(places, calls::observed(core, reply));
+    }
+    replied(stage, core, places)
+}
+
+pub fn executed(stage: Stage, core: Core, places: Places, ok: bool) -> Step
+    requires { ⌜ Ready stage core places ⌝ }
+    ensures { λ r. ⌜ Turns stage core places (Replies (Executed ok)) r ⌝ }
+{
+    if is_started(stage) {
+        return settled(places, calls::executed(core, ok));
+    }
+    replied(stage, core, places)
+}
+
+pub fn recorded(stage: Stage, core: Core, places: Places) -> Step
+    requires { ⌜ Ready stage core places ⌝ }
+    ensures { λ r. ⌜ Turns stage core places (Replies Recorded) r ⌝ }
+{
+    if is_started(stage) {
+        return settled(places, calls::recorded(core));
+    }
+    replied(stage, core, places)
+}
+
+// The places of a ring with no receipt.
+fn no_places() -> Places
+    ensures { λ r. ⌜ Empties r ⌝ }
+{
+    let index = Index::empty();
+    Places {
+        index: index,
+        rejected: [0u8; 64],
+        others: [0u8; 64],
+    }
+}
+
+// Where a start, or a reply to its fallback, leaves the runtime.
+fn begun(outcome: StartOutcome) -> StartStep
+    ensures { λ r. ⌜ Begins outcome r ⌝ }
+{
+    let kind = outcome.kind;
+    let starting = outcome.starting;
+    let core = opened(starting);
+    let receipt = core.receipt;
+    StartStep {
+        answer: start_answer_of(kind),
+        starting: starting,
+        core: core,
+        places: no_places(),
+        slot: 64,
+        receipt: receipt,
+    }
+}
+
+fn with_start(starting: Starting, step: Step) -> StartStep
+    ensures { λ r. ⌜ r ≡ withStart starting step ⌝ }
+{
+    let answer = step.answer;
+    let core = step.core;
+    let places = step.places;
+    let receipt = step.receipt;
+    StartStep {
+        answer: answer,
+        starting: starting,
+        core: core,
+        places: places,
+        slot: step.slot,
+        receipt: receipt,
+    }
+}
+
+// The reply to a fallback: of the start, or of the runtime.
+pub fn fell_back(starting: Starting, core: Core, places: Places, ok: bool) -> StartStep
+    requires { ⌜ StartSound starting × Ready (starting .stage) core places ⌝ }
+    ensures { λ r. ⌜ StartTurns starting core places (Replies (FellBack ok)) r ⌝ }
+{
+    let stage = starting.stage;
+    if is_started(stage) {
+        return with_start(starting, settled(places, calls::fell_back(core, ok)));
+    }
+    begun(start_fell_back(starting, ok))
+}
