@@ -1,0 +1,200 @@
+// The thin outer layer (runtime.rs: the public functions of `Runtime`): each call and reply over a lent `Runtime`, which is taken apart, handed by
+// value to `steps`, and altered in place; the receipts are not copied. No decision is made here. Promises: the runtime stands where the rules'
+// `react` says, the answer is its output, and it stays sound. Rests on `steps`.
+use model::LeaseRequest;
+use model::Renewal;
+use model::Submission;
+use orders::Observed;
+use steps::Answer;
+use steps::Runtime;
+ghost use Rattle.rules.specs.Protocol.{react, Calls, Tick, UpdateState, EmergencyStop, PollEstop, RecoverLocal, Acquire, Renew, Cancel, Submit, Replies, Observed as ObservedReply, Executed, FellBack, Recorded};
+ghost use Rattle.orders.specs.Replies.{observationIn};
+ghost use Rattle.steps.specs.Runtimes.{phaseIn, RuntimeSound, Moves};
+
+// calls ----------------------------------------------------------------------------------------------------------------
+
+pub fn tick(rt: &mut Runtime, time: u64) -> Answer
+    requires { ⌜ RuntimeSound (now rt) ⌝ }
+    ensures { λ r. ⌜ Moves (now (rt .exit)) r (react (phaseIn (now (rt .entry))) (Calls (Tick time))) ⌝ }
+{
+    let stage = rt.starting.stage;
+    let core = rt.core;
+    let places = rt.places;
+    let step = steps::tick(stage, core, places, time);
+    rt.core = step.core;
+    rt.places = step.places;
+    rt.slots[step.slot] = step.receipt;
+    step.answer
+}
+
+pub fn update_state(rt: &mut Runtime, flags: u32, time: u64) -> Answer
+    requires { ⌜ RuntimeSound (now rt) ⌝ }
+    ensures { λ r. ⌜ Moves (now (rt .exit)) r (react (phaseIn (now (rt .entry))) (Calls (UpdateState flags time))) ⌝ }
+{
+    let stage = rt.starting.stage;
+    let core = rt.core;
+    let places = rt.places;
+    let step = steps::update_state(stage, core, places, flags, time);
+    rt.core = step.core;
+    rt.places = step.places;
+    rt.slots[step.slot] = step.receipt;
+    step.answer
+}
+
+pub fn emergency_stop(rt: &mut Runtime, time: u64) -> Answer
+    requires { ⌜ RuntimeSound (now rt) ⌝ }
+    ensures { λ r. ⌜ Moves (now (rt .exit)) r (react (phaseIn (now (rt .entry))) (Calls (EmergencyStop time))) ⌝ }
+{
+    let stage = rt.starting.stage;
+    let core = rt.core;
+    let places = rt.places;
+    let step = steps::emergency_stop(stage, core, places, time);
+    rt.core = step.core;
+    rt.places = step.places;
+    rt.slots[step.slot] = step.receipt;
+    step.answer
+}
+
+pub fn poll_estop(rt: &mut Runtime, raised: u32, time: u64) -> Answer
+    requires { ⌜ RuntimeSound (now rt) ⌝ }
+    ensures { λ r. ⌜ Moves (now (rt .exit)) r (react (phaseIn (now (rt .entry))) (Calls (PollEstop raised time))) ⌝ }
+{
+    let stage = rt.starting.stage;
+    let core = rt.core;
+    let places = rt.places;
+    let step = steps::poll_estop(stage, core, places, raised, time);
+    rt.core = step.core;
+    rt.places = step.places;
+    rt.slots[step.slot] = step.receipt;
+    step.answer
+}
+
+pub fn recover_local(rt: &mut Runtime, time: u64) -> Answer
+    requires { ⌜ RuntimeSound (now rt) ⌝ }
+    ensures { λ r. ⌜ Moves (now (rt .exit)) r (react (phaseIn (now (rt .entry))) (Calls (RecoverLocal time))) ⌝ }
+{
+    let stage = rt.starting.stage;
+    let core = rt.core;
+    let places = rt.places;
+    let step = steps::recover_local(stage, core, places, time);
+    rt.core = step.core;
+    rt.places = step.places;
+    rt.slots[step.slot] = step.receipt;
+    step.answer
+}
+
+pub fn acquire(rt: &mut Runtime, request: LeaseRequest, time: u64) -> Answer
+    requires { ⌜ RuntimeSound (now rt) ⌝ }
+    ensures { λ r. ⌜ Moves (now (rt .exit)) r (react (phaseIn (now (rt .entry))) (Calls (Acquire request time))) ⌝ }
+{
+    let stage = rt.starting.stage;
+    let core = rt.core;
+    let places = rt.places;
+    let step = steps::acquire(stage, core, places, request, time);
+    rt.core = step.core;
+    rt.places = step.places;
+    rt.slots[step.slot] = step.receipt;
+    step.answer
+}
+
+pub fn renew(rt: &mut Runtime, renewal: Renewal) -> Answer
+    requires { ⌜ RuntimeSound (now rt) ⌝ }
+    ensures { λ r. ⌜ Moves (now (rt .exit)) r (react (phaseIn (now (rt .entry))) (Calls (Renew renewal))) ⌝ }
+{
+    let stage = rt.starting.stage;
+    let core = rt.core;
+    let places = rt.places;
+    let step = steps::renew(stage, core, places, renewal);
+    rt.core = step.core;
+    rt.places = step.places;
+    rt.slots[step.slot] = step.receipt;
+    step.answer
+}
+
+pub fn cancel(rt: &mut Runtime, owner: u64, lease: u64, time: u64) -> Answer
+    requires { ⌜ RuntimeSound (now rt) ⌝ }
+    ensures { λ r. ⌜ Moves (now (rt .exit)) r (react (phaseIn (now (rt .entry))) (Calls (Cancel owner lease time))) ⌝ }
+{
+    let stage = rt.starting.stage;
+    let core = rt.core;
+    let places = rt.places;
+    let step = steps::cancel(stage, core, places, owner, lease, time);
+    rt.core = step.core;
+    rt.places = step.places;
+    rt.slots[step.slot] = step.receipt;
+    step.answer
+}
+
+pub fn submit(rt: &mut Runtime, submission: Submission) -> Answer
+    requires { ⌜ RuntimeSound (now rt) ⌝ }
+    ensures { λ r. ⌜ Moves (now (rt .exit)) r (react (phaseIn (now (rt .entry))) (Calls (Submit submission))) ⌝ }
+{
+    let stage = rt.starting.stage;
+    let core = rt.core;
+    let places = rt.places;
+    let step = steps::submit(stage, core, places, submission);
+    rt.core = step.core;
+    rt.places = step.places;
+    rt.slots[step.slot] = step.receipt;
+    step.answer
+}
+
+// replies --------------------------------------------------------------------------------------------------------------
+
+pub fn observed(rt: &mut Runtime, reply: Observed) -> Answer
+    requires { ⌜ RuntimeSound (now rt) ⌝ }
+    ensures { λ r. ⌜ Moves (now (rt .exit)) r (react (phaseIn (now (rt .entry))) (Replies (ObservedReply (observationIn reply)))) ⌝ }
+{
+    let stage = rt.starting.stage;
+    let core = rt.core;
+    let places = rt.places;
+    let step = steps::observed(stage, core, places, reply);
+    rt.core = step.core;
+    rt.places = step.places;
+    rt.slots[step.slot] = step.receipt;
+    step.answer
+}
+
+pub fn executed(rt: &mut Runtime, ok: bool) -> Answer
+    requires { ⌜ RuntimeSound (now rt) ⌝ }
+    ensures { λ r. ⌜ Moves (now (rt .exit)) r (react (phaseIn (now (rt .entry))) (Replies (Executed ok))) ⌝ }
+{
+    let stage = rt.starting.stage;
+    let core = rt.core;
+    let places = rt.places;
+    let step = steps::executed(stage, core, places, ok);
+    rt.core = step.core;
+    rt.places = step.places;
+    rt.slots[step.slot] = step.receipt;
+    step.answer
+}
+
+// Of a startup fallback too: the last opens the core.
+pub fn fell_back(rt: &mut Runtime, ok: bool) -> Answer
+    requires { ⌜ RuntimeSound (now rt) ⌝ }
+    ensures { λ r. ⌜ Moves (now (rt .exit)) r (react (phaseIn (now (rt .entry))) (Replies (FellBack ok))) ⌝ }
+{
+    let starting = rt.starting;
+    let core = rt.core;
+    let places = rt.places;
+    let step = steps::fell_back(starting, core, places, ok);
+    rt.starting = step.starting;
+    rt.core = step.core;
+    rt.places = step.places;
+    rt.slots[step.slot] = step.receipt;
+    step.answer
+}
+
+pub fn recorded(rt: &mut Runtime) -> Answer
+    requires { ⌜ RuntimeSound (now rt) ⌝ }
+    ensures { λ r. ⌜ Moves (now (rt .exit)) r (react (phaseIn (now (rt .entry))) (Replies Recorded)) ⌝ }
+{
+    let stage = rt.starting.stage;
+    let core = rt.core;
+    let places = rt.places;
+    let step = steps::recorded(stage, core, places);
+    rt.core = step.core;
+    rt.places = step.places;
+    rt.slots[step.slot] = step.receipt;
+    step.answer
+}
