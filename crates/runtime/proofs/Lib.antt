@@ -1,5 +1,7 @@
 pub mod Facts
 pub mod Item
+pub mod Look0
+pub mod Look1
 pub mod RawPart
 pub mod Walk0
 pub mod Walk1

@@ -1,13 +1,19 @@
 // The thin outer layer (runtime.rs: the public functions of `Runtime`): each call and reply over a lent `Runtime`, which is taken apart, handed by
 // value to `steps`, and altered in place; the receipts are not copied. No decision is made here. Promises: the runtime stands where the rules'
-// `react` says, the answer is its output, and it stays sound. Rests on `steps`.
+// `react` says, the answer is its output, and it stays sound; a reading shows what the rules' `read` does. Rests on `steps` and `readings`.
+use model::Config;
 use model::LeaseRequest;
+use model::LeaseSlot;
 use model::Renewal;
+use model::RuntimeState;
 use model::Submission;
 use orders::Observed;
+use readings::CapabilitySlot;
 use steps::Answer;
 use steps::Runtime;
 ghost use Rattle.rules.specs.Protocol.{react, Calls, Tick, UpdateState, EmergencyStop, PollEstop, RecoverLocal, Acquire, Renew, Cancel, Submit, Replies, Observed as ObservedReply, Executed, FellBack, Recorded};
+ghost use Rattle.rules.specs.Protocol.{ReadState, ReadEpoch, ReadBootId, ReadFlags, ReadConfig, OfState, OfNumber, OfConfig};
+ghost use Rattle.readings.specs.Readings.{IsRead, LeaseRead, CapabilityRead};
 ghost use Rattle.orders.specs.Replies.{observationIn};
 ghost use Rattle.steps.specs.Runtimes.{phaseIn, RuntimeSound, Moves};
 
@@ -197,4 +203,55 @@ pub fn recorded(rt: &mut Runtime) -> Answer
     rt.places = step.places;
     rt.slots[step.slot] = step.receipt;
     step.answer
+}
+
+// readings -------------------------------------------------------------------------------------------------------------
+
+pub fn state(rt: &Runtime) -> RuntimeState
+    ensures { λ r. ⌜ IsRead (now (rt .entry) .core) ReadState (OfState r) ⌝ }
+{
+    let core = rt.core;
+    readings::state(core)
+}
+
+pub fn epoch(rt: &Runtime) -> u64
+    ensures { λ r. ⌜ IsRead (now (rt .entry) .core) ReadEpoch (OfNumber r) ⌝ }
+{
+    let core = rt.core;
+    readings::epoch(core)
+}
+
+pub fn boot_id(rt: &Runtime) -> u64
+    ensures { λ r. ⌜ IsRead (now (rt .entry) .core) ReadBootId (OfNumber r) ⌝ }
+{
+    let core = rt.core;
+    readings::boot_id(core)
+}
+
+pub fn flags(rt: &Runtime) -> u32
+    ensures { λ r. ⌜ IsRead (now (rt .entry) .core) ReadFlags (OfNumber r) ⌝ }
+{
+    let core = rt.core;
+    readings::flags(core)
+}
+
+pub fn lease(rt: &Runtime, axis: u8) -> LeaseSlot
+    ensures { λ r. ⌜ LeaseRead (now (rt .entry) .core) axis r ⌝ }
+{
+    let core = rt.core;
+    readings::lease(core, axis)
+}
+
+pub fn capability(rt: &Runtime, index: usize) -> CapabilitySlot
+    ensures { λ r. ⌜ CapabilityRead (now (rt .entry) .core) index r ⌝ }
+{
+    let core = rt.core;
+    readings::capability(core, index)
+}
+
+pub fn config(rt: &Runtime) -> Config
+    ensures { λ r. ⌜ IsRead (now (rt .entry) .core) ReadConfig (OfConfig r) ⌝ }
+{
+    let core = rt.core;
+    readings::config(core)
 }
