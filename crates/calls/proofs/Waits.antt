@@ -1,18 +1,24 @@
 -- A call meets a runtime that waits, or one that is idle. Assumes nothing.
+use Prim.Native.Nat.{ℕ}
 use mathlib.Core.Bool.{true, false, false≢true}
 use mathlib.Core.List.{List}
-use mathlib.Core.Path.{_≡_, refl, sym, subst}
+use mathlib.Core.Path.{_≡_, refl, sym, ap, subst, _∙_}
 use Rattle.model.specs.declared.Receipt.{Receipt}
 use Rattle.model.specs.Reasons.{replyAwaited}
 use Rattle.rules.specs.Book.{Book}
+use Rattle.rules.specs.Interaction.{Interaction}
 use Rattle.rules.specs.Protocol.{Call, Calls, Reminds, Reaction, itemOf, begin, proceed, called, effect, apply, react}
+use Rattle.rules.specs.Rules.{tick}
 use Rattle.machine.specs.declared.Awaited.{Awaited}
 use Rattle.machine.specs.declared.Awaited.the-variants as Awaited
 use Rattle.machine.specs.declared.Core.{Core}
 use Rattle.machine.specs.declared.Kind.the-variants.{Reminder}
 use Rattle.machine.specs.declared.Outcome.{Outcome}
+use Rattle.machine.specs.declared.Pending.{Pending}
 use Rattle.machine.specs.Machine.{bookOf, phaseAt, phaseOf, itemAt, outputAt, keptAfter, reactionOf, Sound, Gives}
 use Rattle.machine.proofs.Steps.{gives-by}
+use Rattle.resumption.specs.Quiet.{isQuiet, Ticked}
+use Rattle.resumption.proofs.Quiet.{quiet-tick}
 use Rattle.calls.specs.Waits.{waits}
 
 -- the same outcome
@@ -50,3 +56,14 @@ pub begins : {o : Outcome} (core : Core) (c : Call) → Gives o (λ kept. procee
     → waits (core .waiting .awaited) ≡ false → Gives o (λ kept. react (phaseOf core kept) (Calls c))
 unfolding phaseOf
 begins core c g w = gives-by g (λ kept. begun (core .waiting .awaited) core (bookOf core kept) c w)
+
+-- the call begins with a tick that finds nothing to do, and goes straight on
+pub begins-quietly : {o : Outcome} {p : Pending} {quiet : Core} (core : Core) (c : Call) (now : ℕ) (next : Book → Interaction)
+    → ((b : Book) → begin c b ≡ tick now b next) → Ticked core p now quiet → ((kept : List Receipt) → isQuiet now (bookOf core kept) ≡ true)
+    → Gives o (λ kept. proceed (next (bookOf quiet kept)))
+    → waits (core .waiting .awaited) ≡ false → Gives o (λ kept. react (phaseOf core kept) (Calls c))
+begins-quietly core c now next opens t q g w =
+    begins core c
+    (gives-by g
+    (λ kept. ap proceed (ap next (t .book kept) ∙ sym (quiet-tick now (bookOf core kept) (q kept) next) ∙ sym (opens (bookOf core kept)))))
+    w

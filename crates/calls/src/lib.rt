@@ -1,7 +1,11 @@
 // The nine calls and the four replies (runtime.rs: `tick`, `update_state`, `emergency_stop`, `poll_estop`, `recover_local`, `acquire`, `renew`,
-// `cancel`, `submit`). A call begins with its opening tick, runs up to its first item and stops; a reply takes it on. Each promises that
-// its reaction is the rules' `react`, for every list of receipts kept, and that the core stays sound: answer, items, refusals and every field
-// follow. Rests on `resumption` for what follows, and on `machine` for what a core stands for.
+// `cancel`, `submit`). A call begins with its opening tick, runs up to its first item and stops; a reply takes it on. Where the tick finds
+// nothing to do the call goes straight on, and the core is copied once. Each promises that its reaction is the rules' `react`, for every list
+// of receipts kept, and that the core stays sound: answer, items, refusals and every field follow. Rests on `resumption` for what follows,
+// and on `machine` for what a core stands for.
+use leases::acquire_after_tick;
+use leases::cancel_after_tick;
+use leases::renew_after_tick;
 use machine::AfterTrip;
 use machine::Awaited;
 use machine::CallKind;
@@ -9,6 +13,7 @@ use machine::Core;
 use machine::Kind;
 use machine::Outcome;
 use machine::Pending;
+use machine::returned;
 use model::LeaseRequest;
 use model::OTHER_REPLY_AWAITED;
 use model::REPLY_AWAITED;
@@ -17,10 +22,15 @@ use model::Submission;
 use orders::Observed;
 use orders::after_execute;
 use orders::dispatch;
+use orders::submit_after_tick;
 use orders::verify;
 use resumption::after_fell_back;
 use resumption::after_record;
+use resumption::is_quiet;
 use resumption::opening_tick;
+use resumption::ticked;
+use sensing::recover;
+use sensing::sense;
 ghost use mathlib.Core.Path.{_≡_};
 ghost use Rattle.rules.specs.Protocol.{react, Calls, Tick, UpdateState, EmergencyStop, PollEstop, RecoverLocal, Acquire, Renew, Cancel, Submit, Replies, Observed as ObservedReply, Executed, FellBack, Recorded};
 ghost use Rattle.machine.specs.declared.Kind.the-variants.{Reminder, NoReplyAwaited};
@@ -71,7 +81,6 @@ pub fn tick(core: Core, now: u64) -> Outcome
     if is_waiting(core) {
         return reminder(core, REPLY_AWAITED);
     }
-    let mut next = core;
     let old = core.pending;
     let request = old.request;
     let renewal = old.renewal;
@@ -86,6 +95,11 @@ pub fn tick(core: Core, now: u64) -> Outcome
         renewal: renewal,
         submission: submission,
     };
+    if is_quiet(core, now) {
+        let quiet = ticked(core, pending, now);
+        return returned(quiet);
+    }
+    let mut next = core;
     next.pending = pending;
     opening_tick(next, now)
 }
@@ -97,7 +111,6 @@ pub fn update_state(core: Core, flags: u32, now: u64) -> Outcome
     if is_waiting(core) {
         return reminder(core, REPLY_AWAITED);
     }
-    let mut next = core;
     let old = core.pending;
     let request = old.request;
     let renewal = old.renewal;
@@ -112,6 +125,11 @@ pub fn update_state(core: Core, flags: u32, now: u64) -> Outcome
         renewal: renewal,
         submission: submission,
     };
+    if is_quiet(core, now) {
+        let quiet = ticked(core, pending, now);
+        return sense(quiet, flags, now);
+    }
+    let mut next = core;
     next.pending = pending;
     opening_tick(next, now)
 }
@@ -144,7 +162,6 @@ pub fn recover_local(core: Core, now: u64) -> Outcome
     if is_waiting(core) {
         return reminder(core, REPLY_AWAITED);
     }
-    let mut next = core;
     let old = core.pending;
     let request = old.request;
     let renewal = old.renewal;
@@ -159,6 +176,11 @@ pub fn recover_local(core: Core, now: u64) -> Outcome
         renewal: renewal,
         submission: submission,
     };
+    if is_quiet(core, now) {
+        let quiet = ticked(core, pending, now);
+        return recover(quiet, now);
+    }
+    let mut next = core;
     next.pending = pending;
     opening_tick(next, now)
 }
@@ -170,7 +192,6 @@ pub fn acquire(core: Core, request: LeaseRequest, now: u64) -> Outcome
     if is_waiting(core) {
         return reminder(core, REPLY_AWAITED);
     }
-    let mut next = core;
     let old = core.pending;
     let renewal = old.renewal;
     let submission = old.submission;
@@ -184,6 +205,11 @@ pub fn acquire(core: Core, request: LeaseRequest, now: u64) -> Outcome
         renewal: renewal,
         submission: submission,
     };
+    if is_quiet(core, now) {
+        let quiet = ticked(core, pending, now);
+        return acquire_after_tick(quiet, request, now);
+    }
+    let mut next = core;
     next.pending = pending;
     opening_tick(next, now)
 }
@@ -195,7 +221,6 @@ pub fn renew(core: Core, renewal: Renewal) -> Outcome
     if is_waiting(core) {
         return reminder(core, REPLY_AWAITED);
     }
-    let mut next = core;
     let old = core.pending;
     let request = old.request;
     let submission = old.submission;
@@ -209,6 +234,11 @@ pub fn renew(core: Core, renewal: Renewal) -> Outcome
         renewal: renewal,
         submission: submission,
     };
+    if is_quiet(core, renewal.now) {
+        let quiet = ticked(core, pending, renewal.now);
+        return renew_after_tick(quiet, renewal);
+    }
+    let mut next = core;
     next.pending = pending;
     opening_tick(next, renewal.now)
 }
@@ -220,7 +250,6 @@ pub fn cancel(core: Core, owner: u64, lease_id: u64, now: u64) -> Outcome
     if is_waiting(core) {
         return reminder(core, REPLY_AWAITED);
     }
-    let mut next = core;
     let old = core.pending;
     let request = old.request;
     let renewal = old.renewal;
@@ -235,6 +264,11 @@ pub fn cancel(core: Core, owner: u64, lease_id: u64, now: u64) -> Outcome
         renewal: renewal,
         submission: submission,
     };
+    if is_quiet(core, now) {
+        let quiet = ticked(core, pending, now);
+        return cancel_after_tick(quiet, owner, lease_id, now);
+    }
+    let mut next = core;
     next.pending = pending;
     opening_tick(next, now)
 }
@@ -246,7 +280,6 @@ pub fn submit(core: Core, submission: Submission) -> Outcome
     if is_waiting(core) {
         return reminder(core, REPLY_AWAITED);
     }
-    let mut next = core;
     let old = core.pending;
     let request = old.request;
     let renewal = old.renewal;
@@ -260,6 +293,11 @@ pub fn submit(core: Core, submission: Submission) -> Outcome
         renewal: renewal,
         submission: submission,
     };
+    if is_quiet(core, submission.now) {
+        let quiet = ticked(core, pending, submission.now);
+        return submit_after_tick(quiet);
+    }
+    let mut next = core;
     next.pending = pending;
     opening_tick(next, submission.now)
 }

@@ -13,6 +13,7 @@ use machine::Core;
 use machine::Falling;
 use machine::Mode;
 use machine::Outcome;
+use machine::Pending;
 use machine::Revoked;
 use machine::event;
 use machine::fallback;
@@ -42,9 +43,11 @@ use sensing::recoveries_from;
 use sensing::sense;
 ghost use Prim.Native.Nat.{_+_, _≤_, _<_};
 ghost use mathlib.Core.Bool.{true, cond};
+ghost use mathlib.Core.List.{List, map};
 ghost use mathlib.Core.Path.{_≡_};
 ghost use lib.Dec.{leb};
 ghost use Rattle.model.specs.declared.Reason.the-variants.{Driver};
+ghost use Rattle.model.specs.declared.Receipt.{Receipt};
 ghost use Rattle.rules.specs.Admission.{axes, holdsOf};
 ghost use Rattle.rules.specs.Book.{withLastTick};
 ghost use Rattle.rules.specs.Protocol.{proceed};
@@ -53,6 +56,7 @@ ghost use Rattle.machine.specs.declared.AfterFallback.the-variants.{Trip, Expir
 ghost use Rattle.machine.specs.declared.AfterRecord.the-variants.{Failed};
 ghost use Rattle.machine.specs.Axes.{axesFrom};
 ghost use Rattle.machine.specs.Machine.{leaseIn, activeIn, bookOf, capabilitiesOf, afterTick, tickEnd, afterTrip, afterFallbackOf, afterFallback, afterFellBack, afterRecord, Sound, Gives};
+ghost use Rattle.resumption.specs.Quiet.{noneDue, isQuiet, Ticked};
 
 // tick -----------------------------------------------------------------------------------------------------------------
 
@@ -200,6 +204,71 @@ pub fn opening_tick(core: Core, now: u64) -> Outcome
         return trip(core, Reason::Faulted, now, AfterTrip::Tick, 0);
     }
     supervise(core, now)
+}
+
+// No lease and no active order is over.
+fn none_over(leases: [LeaseSlot; 8], orders: [ActiveSlot; 8], now: u64) -> bool
+    ensures { λ r. ⌜ r ≡ noneDue axes now (map leaseIn leases) (map activeIn orders) ⌝ }
+{
+    let mut i = 0;
+    while i < 8 {
+        let lease = leases[i];
+        if is_lease_over(lease, now) {
+            return false;
+        }
+        let active = orders[i];
+        if is_order_over(active, now) {
+            return false;
+        }
+        i += 1;
+    }
+    true
+}
+
+// The opening tick would find nothing to do.
+pub fn is_quiet(core: Core, now: u64) -> bool
+    ensures { λ r. ⌜ ((kept : List Receipt) → r ≡ isQuiet now (bookOf core kept)) ⌝ }
+{
+    if now < core.last_tick {
+        return false;
+    }
+    if is_exhausted(core) {
+        return false;
+    }
+    let mode = core.mode;
+    let state = mode.state;
+    let config = core.config;
+    let limit = config.watchdog_ms as u64;
+    let gap = now - core.last_tick;
+    if is_armed(state) {
+        if gap > limit {
+            return false;
+        }
+        if is_stale(core, now) {
+            return false;
+        }
+    }
+    let leases = core.leases;
+    let orders = core.active;
+    none_over(leases, orders, now)
+}
+
+// What such a tick leaves, with the call in hand: the last tick set and the state refreshed, the core copied once.
+pub fn ticked(core: Core, pending: Pending, now: u64) -> Core
+    requires { ⌜ Sound core ⌝ }
+    ensures { λ r. ⌜ Ticked core pending now r ⌝ }
+{
+    let mut next = core;
+    let mode = core.mode;
+    let state = mode.state;
+    let leases = core.leases;
+    let fresh = Mode {
+        state: refreshed(leases, state),
+    };
+    next.pending = pending;
+    next.last_tick = now;
+    next.mode = fresh;
+    next
 }
 
 // resumption -----------------------------------------------------------------------------------------------------------

@@ -1,6 +1,6 @@
-use mathlib.Core.Path.{sym, _∙_}
+use mathlib.Core.Path.{refl, sym, _∙_}
 use Rattle.rules.specs.Protocol.{begin, Tick}
-use Rattle.calls.proofs.Waits.{reminds, begins}
+use Rattle.calls.proofs.Waits.{reminds, begins, begins-quietly}
 use Rattle.machine.specs.Machine.{bookOf, afterTickOf}
 use borrow.Author.Needs.{needs}
 use Rattle.calls.proofs.tick.Statement.{statement}
@@ -17,16 +17,34 @@ returns c =
     let a = c .before .before .before .args in
     reminds (a .core) (Tick (a .now)) (c .before .before .before .pre) (c .reminder .ensures) (sym (c .before .before .is-waiting .ensures) ∙ c .before .if1 .taken)
 
+is-quiet-requires : tie.Need-is-quiet-requires
+is-quiet-requires c κs = search needs
+
+ticked-requires : tie.Need-ticked-requires
+ticked-requires c κs = search needs
+
+returned-requires : tie.Need-returned-requires
+returned-requires c κs = search needs
+
+returns-2 : tie.Need-returns-2
+unfolding begin
+returns-2 c =
+    let a = c .before .before .before .before .before .before .before .before .before .before .args in
+    begins-quietly (a .core) (Tick (a .now)) (a .now) _ (λ b. refl) (c .before .ticked .ensures)
+    (λ kept. sym (c .before .before .before .is-quiet .ensures kept) ∙ c .before .before .if2 .taken)
+    (c .returned .ensures)
+    (sym (c .before .before .before .before .before .before .before .before .before .is-waiting .ensures) ∙ c .before .before .before .before .before .before .before .before .if1 .left)
+
 opening-tick-requires : tie.Need-opening-tick-requires
 opening-tick-requires c κs = search needs
 
-returns-2 : tie.Need-returns-2
+returns-3 : tie.Need-returns-3
 unfolding bookOf begin afterTickOf
-returns-2 c =
-    let a = c .before .before .before .before .before .before .before .args in
-    begins (a .core) (Tick (a .now)) (c .opening-tick .ensures) (sym (c .before .before .before .before .before .before .is-waiting .ensures) ∙ c .before .before .before .before .before .if1 .left)
+returns-3 c =
+    let a = c .before .before .before .before .before .before .before .before .before .args in
+    begins (a .core) (Tick (a .now)) (c .opening-tick .ensures) (sym (c .before .before .before .before .before .before .before .before .is-waiting .ensures) ∙ c .before .before .before .before .before .before .before .if1 .left)
 
 pub tick-spec : {M : Type 1} → statement M
 tick-spec =
     tie.close
-    (tie.spec is-waiting-requires reminder-requires returns opening-tick-requires returns-2)
+    (tie.spec is-waiting-requires reminder-requires returns is-quiet-requires ticked-requires returned-requires returns-2 opening-tick-requires returns-3)
