@@ -24,17 +24,10 @@ use Rattle.session.specs.declared.Session.{Session}
 use Rattle.session.specs.declared.Turn.{Turn}
 use Rattle.session.specs.Records.{Standing, step, told, answerWords}
 use Rattle.steps.specs.Runtimes.{phaseAt}
+use Rattle.steps.proofs.Starts.{begun-at}
 use Rattle.session.specs.Sessions.{Listing, phaseIn, Answers}
 
 -- after a start, or an input during it
-module _ (s : Session) (h : StartSound (s .starting)) (o : (StartSound (s .starting) × (s .starting .stage ≡ Stage.Started)) → Opened (s .starting) (s .core))
-    (k : Rings.Starts (s .ring)) where
-  begun-at : (g : Stage) → s .starting .stage ≡ g → phaseAt g (s .starting) (s .core) (receiptsOf (s .ring)) ≡ startPhaseOf (s .starting)
-  unfolding phaseAt
-  begun-at Stage.Trying e = refl
-  begun-at Stage.Gone e = refl
-  begun-at Stage.Started e = ap (phaseOf (s .core)) (k .nothing) ∙ o (h, e) .phase
-
 pub begins : (t : Turn) (outcome : StartOutcome) (l : List Capability) (x : Reaction) → t .session .starting ≡ outcome .starting
     → ((StartSound (outcome .starting) × (outcome .starting .stage ≡ Stage.Started)) → Opened (outcome .starting) (t .session .core))
     → Rings.Starts (t .session .ring) → t .words ≡ encode (startOutputAt (outcome .kind) (outcome .starting))
@@ -48,7 +41,7 @@ begins t outcome l x e o k w n g =
       stands =
           record {
             listing = n;
-            phase = begun-at (t .session) h o′ k (t .session .starting .stage) refl ∙ ap startPhaseOf e ∙ ap (λ (r : Reaction). r .phase) (g .reaction);
+            phase = begun-at (t .session .starting .stage) (t .session .starting) (t .session .core) (receiptsOf (t .session .ring)) refl h o′ (k .nothing) ∙ ap startPhaseOf e ∙ ap (λ (r : Reaction). r .phase) (g .reaction);
           };
       sound = record { starting = h; core = λ d. o′ (h, d) .sound; ring = k .kept };
     }

@@ -1,16 +1,15 @@
 -- Where a step leaves a runtime. Assumes nothing.
-use Prim.Native.Nat.{_<_}
 use native.Mathlib.Omega.{arith}
-use mathlib.Core.Bool.{Bool, true, false, false≢true}
+use mathlib.Core.Bool.{true, false, false≢true}
 use mathlib.Core.List.{List}
 use mathlib.Core.Path.{_≡_, refl, sym, ap, _∙_, subst}
 use lib.ListN.{set}
 use Rattle.model.specs.declared.Receipt.{Receipt}
+use Rattle.model.specs.Reasons.{replyAwaited, otherReplyAwaited}
 use Rattle.rules.specs.Protocol.{Input, Call, Calls, Reply, Replies, Phase, Reaction, called, replied, effect, apply, react}
 use Rattle.machine.specs.declared.Core.{Core}
 use Rattle.machine.specs.declared.Outcome.{Outcome}
 use Rattle.machine.specs.Machine.{phaseOf, Sound, reactionOf, Gives}
-use Rattle.machine.specs.Machine as Machine
 use Rattle.start.specs.declared.Stage.{Stage}
 use Rattle.start.specs.declared.Stage.the-variants as Stage
 use Rattle.start.specs.declared.Starting.{Starting}
@@ -71,11 +70,9 @@ at-start Stage.Trying s core kept n = refl
 at-start Stage.Gone s core kept n = refl
 at-start Stage.Started s core kept n = absurd (false≢true (sym n))
 
-not-started : (g : Stage) → isStarted g ≡ false → g ≡ Stage.Started → ⊥
+pub none-started : {A : Type 0} (g : Stage) → isStarted g ≡ false → g ≡ Stage.Started → A
 unfolding isStarted
-not-started Stage.Trying n e = false≢true (ap isStarted e)
-not-started Stage.Gone n e = false≢true (ap isStarted e)
-not-started Stage.Started n e = absurd (false≢true (sym n))
+none-started g n e = absurd (false≢true (sym n ∙ ap isStarted e))
 
 module _ (rt : Runtime) (h : RuntimeSound rt) (n : isStarted (rt .starting .stage) ≡ false) (answer : Answer) (i : Input)
     (e : _≡_ {A = Reaction} (record { output = outputAt answer (rt .starting) (rt .core); phase = startPhaseOf (rt .starting) }) (react (startPhaseOf (rt .starting)) i)) where
@@ -104,7 +101,7 @@ turns-aside {stage} {core} {places} i answer {r} n e q = subst (Turns stage core
 -- what a start answers to a call, and to a reply of another kind than a fallback's
 module _ (core : Core) (s : Starting) where
   pub called-trying : (call : Call) → s .stage ≡ Stage.Trying
-      → _≡_ {A = Reaction} (record { output = outputAt (Answer.StartReminder 111) s core; phase = startPhaseOf s }) (react (startPhaseOf s) (Calls call))
+      → _≡_ {A = Reaction} (record { output = outputAt (Answer.StartReminder replyAwaited) s core; phase = startPhaseOf s }) (react (startPhaseOf s) (Calls call))
   unfolding react apply effect called startPhaseAt outputAt
   called-trying call e = rw e
 
@@ -114,7 +111,7 @@ module _ (core : Core) (s : Starting) where
   called-gone call e = rw e
 
   pub replied-trying : (reply : Reply) → isOther reply ≡ true → s .stage ≡ Stage.Trying
-      → _≡_ {A = Reaction} (record { output = outputAt (Answer.StartReminder 113) s core; phase = startPhaseOf s }) (react (startPhaseOf s) (Replies reply))
+      → _≡_ {A = Reaction} (record { output = outputAt (Answer.StartReminder otherReplyAwaited) s core; phase = startPhaseOf s }) (react (startPhaseOf s) (Replies reply))
   unfolding react apply effect replied startPhaseAt outputAt
   replied-trying reply other e = rw (e, other-reminds reply other)
 
@@ -122,6 +119,3 @@ module _ (core : Core) (s : Starting) where
       → _≡_ {A = Reaction} (record { output = outputAt Answer.NoReplyAwaited s core; phase = startPhaseOf s }) (react (startPhaseOf s) (Replies reply))
   unfolding react apply effect replied startPhaseAt outputAt
   replied-gone reply e = rw e
-
-pub none-started : {A : Type 0} (g : Stage) → isStarted g ≡ false → g ≡ Stage.Started → A
-none-started g n e = absurd (not-started g n e)

@@ -1,15 +1,13 @@
 -- Where a start, and a reply to its fallback, leave a runtime. Assumes nothing.
-use Prim.Native.Nat.{ℕ, _<_}
 use native.Mathlib.Omega.{arith}
 use mathlib.Core.Bool.{true, false}
 use mathlib.Core.List.{List, []}
 use mathlib.Core.Path.{_≡_, refl, sym, ap, _∙_, subst}
-use lib.ListN.{length, take, set, replicate, length-set}
+use lib.ListN.{length, set, length-set}
 use lib.Seq.{length-take-le}
 use Rattle.model.specs.declared.Receipt.{Receipt}
 use Rattle.rules.specs.Protocol.{Input, Phase, Reaction, react}
-use Rattle.receipts.specs.declared.Index.{Index}
-use Rattle.receipts.specs.Indexes.{Opens, Long}
+use Rattle.receipts.specs.Indexes.{Opens}
 use Rattle.machine.specs.declared.Core.{Core}
 use Rattle.machine.specs.declared.Outcome.{Outcome}
 use Rattle.machine.specs.Machine.{phaseOf, Gives}
@@ -47,7 +45,7 @@ start-output-of StartKind.NoRuntime s core = refl
 start-output-of StartKind.Started s core = refl
 
 -- after a start, or a reply to its fallback: where it stands is the start's phase
-begun-at : (g : Stage) (s : Starting) (core : Core) (kept : List Receipt) → s .stage ≡ g → StartSound s
+pub begun-at : (g : Stage) (s : Starting) (core : Core) (kept : List Receipt) → s .stage ≡ g → StartSound s
     → ((StartSound s × (s .stage ≡ Stage.Started)) → Opened s core) → kept ≡ [] → phaseAt g s core kept ≡ startPhaseOf s
 unfolding phaseAt
 begun-at Stage.Trying s core kept e h o n = refl
