@@ -16,7 +16,7 @@ use Rattle.start.specs.declared.Stage.{Stage}
 use Rattle.start.specs.declared.Stage.the-variants as Stage
 use Rattle.start.specs.declared.Starting.{Starting}
 use Rattle.start.specs.declared.StartOutcome.{StartOutcome}
-use Rattle.start.specs.Starts.{startPhaseOf, startOutputAt, startReactionOf, StartSound, StartGives, Opened}
+use Rattle.start.specs.Starts.{startPhaseOf, startOutputAt, startReactionOf, Listing, StartSound, StartGives, Opened}
 use Rattle.format.specs.declared.RecordKind.{RecordKind}
 use Rattle.format.specs.Decode.{Record, recordOf, checkedKind}
 use Rattle.format.specs.Encode.{encode}
@@ -25,13 +25,13 @@ use Rattle.session.specs.declared.Turn.{Turn}
 use Rattle.session.specs.Records.{Standing, step, told, answerWords}
 use Rattle.steps.specs.Runtimes.{phaseAt}
 use Rattle.steps.proofs.Starts.{begun-at}
-use Rattle.session.specs.Sessions.{Listing, phaseIn, Answers}
+use Rattle.session.specs.Sessions.{phaseIn, Answers}
 
 -- after a start, or an input during it
 pub begins : (t : Turn) (outcome : StartOutcome) (l : List Capability) (x : Reaction) → t .session .starting ≡ outcome .starting
     → ((StartSound (outcome .starting) × (outcome .starting .stage ≡ Stage.Started)) → Opened (outcome .starting) (t .session .core))
     → Rings.Starts (t .session .ring) → t .words ≡ encode (startOutputAt (outcome .kind) (outcome .starting))
-    → Listing (t .session .count) (t .session .listed) l → StartGives outcome x → Answers t (told l x)
+    → Listing (t .session .listed) l → StartGives outcome x → Answers t (told l x)
 unfolding told answerWords startReactionOf
 begins t outcome l x e o k w n g =
     let h = subst StartSound (sym e) (g .sound) in
@@ -50,7 +50,7 @@ begins t outcome l x e o k w n g =
 pub moves : (t : Turn) (outcome : Outcome) (l : List Capability) (x : List Receipt → Reaction) (kept : List Receipt) → t .session .core ≡ outcome .core
     → StartSound (t .session .starting) → t .session .starting .stage ≡ Stage.Started → Kept (t .session .ring)
     → receiptsOf (t .session .ring) ≡ keptAfter (outcome .kind) (outcome .core) kept
-    → t .words ≡ encode (outputAt (outcome .kind) (outcome .core)) → Listing (t .session .count) (t .session .listed) l → Gives outcome x
+    → t .words ≡ encode (outputAt (outcome .kind) (outcome .core)) → Listing (t .session .listed) l → Gives outcome x
     → Answers t (told l (x kept))
 unfolding told answerWords reactionOf phaseAt
 moves t outcome l x kept e h st k r w n g =

@@ -1,31 +1,21 @@
 -- What a session stands for, and what its functions promise.
-use Prim.Native.Nat.{ℕ, _≤_, min}
-use mathlib.Core.List.{List}
 use mathlib.Core.Path.{_≡_}
-use lib.ListN.{length, take}
-use Rattle.model.specs.declared.Capability.{Capability}
 use Rattle.rules.specs.Protocol.{Phase}
 use Rattle.receipts.specs.Rings.{Kept, receiptsOf}
 use Rattle.machine.specs.Machine.{Sound}
 use Rattle.start.specs.declared.Stage.the-variants as Stage
-use Rattle.start.specs.Starts.{StartSound}
+use Rattle.start.specs.Starts.{Listing, StartSound}
 use Rattle.steps.specs.Runtimes.{phaseAt}
 use Rattle.session.specs.declared.Session.{Session}
 use Rattle.session.specs.declared.Turn.{Turn}
 use Rattle.session.specs.Records.{Standing, Step, answerWords}
-
--- the list that an array and a count stand for: the array holds its first 16, and a count of 17 stands for more
-pub record Listing (count : ℕ) (array l : List Capability) : Type 0 where
-  pub room : length array ≡ 16
-  pub counted : count ≡ min 17 (length l)
-  pub same : length l ≤ 16 → take count array ≡ l
 
 -- where it stands: the start, or the runtime that it has left
 abbrev pub phaseIn : Session → Phase
 phaseIn s = phaseAt (s .starting .stage) (s .starting) (s .core) (receiptsOf (s .ring))
 
 pub record Stands (s : Session) (x : Standing) : Type 0 where
-  pub listing : Listing (s .count) (s .listed) (x .listed)
+  pub listing : Listing (s .listed) (x .listed)
   pub phase : phaseIn s ≡ x .phase
 
 -- the one condition on a session: what `fresh` sets up and every record keeps

@@ -20,6 +20,7 @@ use model::Capability;
 use model::Config;
 use receipts::Ring;
 use receipts::record;
+use start::Listed;
 use start::Stage;
 use start::Start;
 use start::StartOutcome;
@@ -34,16 +35,15 @@ ghost use Rattle.rules.specs.Protocol.{Reaction, Reads};
 ghost use Rattle.receipts.specs.Rings.{receiptsOf};
 ghost use Rattle.machine.specs.Machine.{Gives};
 ghost use Rattle.start.specs.declared.Stage.the-variants.{Started};
-ghost use Rattle.start.specs.Starts.{StartGives};
+ghost use Rattle.start.specs.Starts.{Listing, StartGives};
 ghost use Rattle.format.specs.Decode.{word, u32At, configOf, turnOf, readingOf, Lists, Starts, Feeds, Malformed, decode};
 ghost use Rattle.session.specs.Records.{Standing, opening, told, step as stepRule};
-ghost use Rattle.session.specs.Sessions.{Listing, Stands, SessionSound, Answers};
+ghost use Rattle.session.specs.Sessions.{Stands, SessionSound, Answers};
 ghost use Rattle.model.specs.declared.Receipt.{Receipt};
 
 pub struct Session {
-    // The capabilities listed for the next start: the first 16, and how many; 17 stands for more.
-    pub listed: [Capability; 16],
-    pub count: usize,
+    // The capabilities listed for the next start.
+    pub listed: Listed,
     pub starting: Starting,
     // The runtime, once the start is over; before that, blanks.
     pub core: Core,
@@ -77,8 +77,7 @@ pub fn fresh() -> Session
         good: false,
     };
     Session {
-        listed: [blank; 16],
-        count: 0,
+        listed: Listed::empty(),
         starting: starting,
         core: opened(starting),
         ring: receipts::empty(),
@@ -91,18 +90,9 @@ fn list(session: Session, capability: Capability) -> Turn
     ensures { λ r. ⌜ ((x : Standing) → Stands session x → Answers r (stepRule x (Lists capability))) ⌝ }
 {
     let mut next = session;
-    let count = session.count;
-    let mut listed = session.listed;
-    if count < 16 {
-        listed[count] = capability;
-        next.listed = listed;
-        next.count = count + 1;
-        return Turn {
-            session: next,
-            words: plain_words(1, 0),
-        };
-    }
-    next.count = 17;
+    let listed = session.listed;
+    let more = listed.with(capability);
+    next.listed = more;
     Turn {
         session: next,
         words: plain_words(1, 0),
@@ -111,7 +101,7 @@ fn list(session: Session, capability: Capability) -> Turn
 
 // Where a start, or an input during it, leaves the session.
 fn begun(session: Session, outcome: StartOutcome) -> Turn
-    ensures { λ r. ⌜ ((l : List Capability) (x : Reaction) → Listing (session .count) (session .listed) l → StartGives outcome x → Answers r (told l x)) ⌝ }
+    ensures { λ r. ⌜ ((l : List Capability) (x : Reaction) → Listing (session .listed) l → StartGives outcome x → Answers r (told l x)) ⌝ }
 {
     let mut next = session;
     let kind = outcome.kind;
@@ -134,23 +124,25 @@ fn begin(session: Session, words: [u64; 16]) -> Turn
 {
     let mut next = session;
     let listed = session.listed;
+    let capabilities = listed.records;
     let config = config_of(words);
     let start = Start {
         config: config,
-        capabilities: listed,
-        count: session.count,
+        capabilities: capabilities,
+        count: listed.count,
         boot_id: words[1],
         now: words[2],
         flags: as_u32(words[3]),
     };
-    next.count = 0;
+    let none = Listed::empty();
+    next.listed = none;
     begun(next, new(start))
 }
 
 // Where a call or a reply leaves the session.
 fn moved(session: Session, outcome: Outcome) -> Turn
     requires { ⌜ SessionSound session × (session .starting .stage ≡ Started) ⌝ }
-    ensures { λ r. ⌜ ((l : List Capability) (x : List Receipt → Reaction) → Listing (session .count) (session .listed) l → Gives outcome x → Answers r (told l (x (receiptsOf (session .ring))))) ⌝ }
+    ensures { λ r. ⌜ ((l : List Capability) (x : List Receipt → Reaction) → Listing (session .listed) l → Gives outcome x → Answers r (told l (x (receiptsOf (session .ring))))) ⌝ }
 {
     let mut next = session;
     let kind = outcome.kind;

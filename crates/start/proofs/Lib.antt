@@ -1,3 +1,4 @@
 pub mod Records
 pub mod Axes
 pub mod Steps
+pub mod Listings

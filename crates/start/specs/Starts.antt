@@ -1,10 +1,10 @@
 -- What a start's own data stands for: its arguments, where it stands, and what comes out. Then what its functions promise.
-use Prim.Native.Nat.{ℕ, _+_, _-_, _<_}
+use Prim.Native.Nat.{ℕ, _+_, _-_, _<_, _≤_, min}
 use mathlib.Core.Bool.{Bool, true, false}
 use mathlib.Core.List.{List, [], _++_}
 use mathlib.Core.Option.{Option, some, none}
 use mathlib.Core.Path.{_≡_}
-use lib.ListN.{take, replicate}
+use lib.ListN.{length, take, replicate}
 use Rattle.model.specs.declared.Capability.{Capability}
 use Rattle.model.specs.declared.Reason.the-variants as Reason
 use Rattle.model.specs.Reasons.{noReplyAwaited}
@@ -15,6 +15,7 @@ use Rattle.rules.specs.Protocol.{Reply, Observed, Executed, FellBack, Recorded,
 use Rattle.machine.specs.Axes.{usedFrom}
 use Rattle.machine.specs.declared.Core.{Core}
 use Rattle.machine.specs.Machine.{bookOf, phaseOf, Checked, Sound}
+use Rattle.start.specs.declared.Listed.{Listed}
 use Rattle.start.specs.declared.Stage.{Stage}
 use Rattle.start.specs.declared.Stage.the-variants as Stage
 use Rattle.start.specs.declared.Start.{Start}
@@ -45,6 +46,12 @@ startOf s =
       now = s .now;
       flags = s .flags;
     }
+
+-- what a list's array and count stand for: the array holds its first 16, and a count of 17 stands for more
+pub record Listing (s : Listed) (l : List Capability) : Type 0 where
+  pub room : length (s .records) ≡ 16
+  pub counted : s .count ≡ min 17 (length l)
+  pub same : length l ≤ 16 → take (s .count) (s .records) ≡ l
 
 -- what the checks find
 unfoldable pub verdictOf : Option ℕ → Verdict

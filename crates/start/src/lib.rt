@@ -38,12 +38,13 @@ use model::axis_used;
 use model::id_taken;
 use replay::ReplayRing;
 ghost use mathlib.Core.Bool.{cond, true, false};
-ghost use mathlib.Core.List.{[]};
+ghost use mathlib.Core.List.{List, [], _∷_, _++_};
 ghost use mathlib.Core.Logic.{_≢_};
 ghost use mathlib.Core.Option.{some};
 ghost use mathlib.Core.Path.{_≡_};
-ghost use Prim.Native.Nat.{ℕ, _<_, _≤_};
+ghost use Prim.Native.Nat.{ℕ, _<_, _≤_, min};
 ghost use lib.ListN.{getD, take};
+ghost use Rattle.model.specs.declared.Capability.{Capability};
 ghost use Rattle.model.specs.Soundness.{axisUsed};
 ghost use Rattle.model.specs.declared.RuntimeState.the-variants.{SafeIdle, Estopped};
 ghost use Rattle.rules.specs.Protocol.{Call, Reply, FellBack, Reading, Calls, Replies, Reads, badConfig, refusedRecord, refusedStart, startFrom, startUnless, start as startRule, react};
@@ -51,7 +52,7 @@ ghost use Rattle.rules.specs.Rules.{meetsEstop};
 ghost use Rattle.machine.specs.Axes.{usedFrom};
 ghost use Rattle.machine.specs.Machine.{Checked};
 ghost use Rattle.start.specs.declared.Stage.the-variants.{Started};
-ghost use Rattle.start.specs.Starts.{recordsOf, startOf, verdictOf, startPhaseOf, isOther, StartSound, StartGives, Opened};
+ghost use Rattle.start.specs.Starts.{recordsOf, startOf, verdictOf, startPhaseOf, isOther, Listing, StartSound, StartGives, Opened};
 
 // The arguments of `Runtime::new`. The list is the first `count` records.
 pub struct Start {
@@ -61,6 +62,12 @@ pub struct Start {
     pub boot_id: u64,
     pub now: u64,
     pub flags: u32,
+}
+
+// A list of records for a start: its first 16, and how many it has; 17 stands for more.
+pub struct Listed {
+    pub records: [Capability; 16],
+    pub count: usize,
 }
 
 // What the checks of a start find.
@@ -100,6 +107,46 @@ pub enum StartKind {
 pub struct StartOutcome {
     pub kind: StartKind,
     pub starting: Starting,
+}
+
+// The list ------------------------------------------------------------------------------------------------------------
+
+impl Listed {
+    pub fn empty() -> Self
+        ensures { λ r. ⌜ Listing r [] ⌝ }
+    {
+        let blank = Capability::blank();
+        Self {
+            records: [blank; 16],
+            count: 0,
+        }
+    }
+
+    // How many records of a list of this length tell what a start makes of it.
+    pub fn enough(length: usize) -> usize
+        ensures { λ r. ⌜ r ≡ min 17 length ⌝ }
+    {
+        if length < 17 { length } else { 17 }
+    }
+
+    // One more at the end. The records past the 16th are not kept: a list that long is refused by its length.
+    pub fn with(self, capability: Capability) -> Self
+        ensures { λ r. ⌜ ((l : List Capability) → Listing self l → Listing r (l ++ (capability ∷ []))) ⌝ }
+    {
+        let mut records = self.records;
+        let count = self.count;
+        if count < 16 {
+            records[count] = capability;
+            return Self {
+                records: records,
+                count: count + 1,
+            };
+        }
+        Self {
+            records: records,
+            count: 17,
+        }
+    }
 }
 
 // The checks --------------------------------------------------------------------------------------------------------

@@ -52,26 +52,27 @@ begun-at Stage.Trying s core kept e h o n = refl
 begun-at Stage.Gone s core kept e h o n = refl
 begun-at Stage.Started s core kept e h o n = ap (phaseOf core) n ∙ o (h, e) .phase
 
-module _ (rt : Runtime) (o : StartOutcome) (s : StartStep) (n : Begins o s) (x : Reaction) (g : StartGives o x) (room : length (rt .slots) ≡ 65) where
-  abbrev slots : List Receipt
-  slots = set (rt .slots) (s .slot) (s .receipt)
+-- a runtime that is made of what a start leaves, whatever is in its slots
+abbrev created : StartStep → List Receipt → Runtime
+created s slots = record { starting = s .starting; core = s .core; places = s .places; slots = slots }
 
+module _ (slots : List Receipt) (o : StartOutcome) (s : StartStep) (n : Begins o s) {x : Reaction} (g : StartGives o x) (room : length slots ≡ 65) where
   sound : StartSound (s .starting)
   sound = subst StartSound (sym (n .starting)) (g .sound)
 
   opens : (StartSound (s .starting) × (s .starting .stage ≡ Stage.Started)) → Opened (s .starting) (s .core)
   opens = subst (λ (z : Starting). (StartSound z × (z .stage ≡ Stage.Started)) → Opened z (s .core)) (sym (n .starting)) (n .opened)
 
-  pub moves-begun : Moves (afterStart rt s) (s .answer) x
+  pub moves-created : Moves (created s slots) (s .answer) x
   unfolding startReactionOf
-  moves-begun = record {
+  moves-created = record {
     output = rw (n .answer, n .starting) (start-output-of (o .kind) (o .starting) (s .core)) ∙ ap (λ (y : Reaction). y .output) (g .reaction);
     phase = begun-at (s .starting .stage) (s .starting) (s .core) (receiptsOf (s .places) slots) refl sound opens (n .empty .nothing slots)
         ∙ ap startPhaseOf (n .starting) ∙ ap (λ (y : Reaction). y .phase) (g .reaction);
     sound = record {
       starting = sound;
       core = λ d. opens (sound, d) .sound;
-      kept = n .empty .kept slots (length-set (rt .slots) (s .slot) (s .receipt) ∙ room);
+      kept = n .empty .kept slots room;
     };
   }
 
@@ -80,9 +81,9 @@ module _ {starting : Starting} {core : Core} {places : Places} {i : Input} where
       → StartTurns starting core places i s
   turns-begun {o} {s} d n g = record {
     inside = rw (n .aside) (omega arith);
-    moves = λ rt a b e h. moves-begun rt o s n (react (phaseIn rt) i)
+    moves = λ rt a b e h. moves-created (set (rt .slots) (s .slot) (s .receipt)) o s n
         (subst (StartGives o) (ap (λ (p : Phase). react p i) (sym (at-start (rt .starting .stage) (rt .starting) (rt .core) (receiptsOf (rt .places) (rt .slots)) (ap (λ (z : Starting). isStarted (z .stage)) a ∙ d) ∙ ap startPhaseOf a))) g)
-        (h .kept .room);
+        (length-set (rt .slots) (s .slot) (s .receipt) ∙ h .kept .room);
   }
 
   pub turns-with-start : {o : Outcome} {s : Step} {r : StartStep} → isStarted (starting .stage) ≡ true → Settles places o s

@@ -4,6 +4,8 @@ use mathlib.Core.Bool.{Bool, true, false}
 use mathlib.Core.List.{List, []}
 use mathlib.Core.Path.{_≡_}
 use lib.ListN.{length, take, set}
+use Rattle.model.specs.declared.Capability.{Capability}
+use Rattle.model.specs.declared.Config.{Config}
 use Rattle.model.specs.declared.Receipt.{Receipt}
 use Rattle.model.specs.Reasons.{noReplyAwaited}
 use Rattle.rules.specs.Interaction.{Returned, Polled, Succeeded, Leased, Refused, Submitted}
@@ -19,6 +21,8 @@ use Rattle.machine.specs.declared.Kind.{Kind}
 use Rattle.machine.specs.declared.Kind.the-variants as Kind
 use Rattle.machine.specs.declared.Outcome.{Outcome}
 use Rattle.machine.specs.Machine.{phaseOf, itemOf, keptAfter, Sound}
+use Rattle.start.specs.declared.Listed.{Listed}
+use Rattle.start.specs.declared.Start.{Start}
 use Rattle.start.specs.declared.Stage.{Stage}
 use Rattle.start.specs.declared.Stage.the-variants as Stage
 use Rattle.start.specs.declared.Starting.{Starting}
@@ -190,6 +194,14 @@ withStart g s = record { answer = s .answer; starting = g; core = s .core; place
 pub record Empties (p : Places) : Type 0 where
   pub kept : (slots : List Receipt) → length slots ≡ 65 → Kept p slots
   pub nothing : (slots : List Receipt) → receiptsOf p slots ≡ []
+
+-- the arguments of a start as the rules have them, and with the list as a start holds it
+abbrev pub startOn : Config → List Capability → ℕ → ℕ → ℕ → Protocol.Start
+startOn config l bootId now flags = record { config = config; capabilities = l; bootId = bootId; now = now; flags = flags }
+
+abbrev pub startWith : Config → Listed → ℕ → ℕ → ℕ → Start
+startWith config l bootId now flags =
+    record { config = config; capabilities = l .records; count = l .count; «boot_id» = bootId; now = now; flags = flags }
 
 -- what a start leaves to be stored
 pub record Begins (o : StartOutcome) (s : StartStep) : Type 0 where

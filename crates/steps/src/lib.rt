@@ -5,6 +5,7 @@ use machine::Awaited;
 use machine::Core;
 use machine::Kind;
 use machine::Outcome;
+use model::Config;
 use model::LeaseRequest;
 use model::OTHER_REPLY_AWAITED;
 use model::REPLY_AWAITED;
@@ -16,7 +17,9 @@ use orders::Observed;
 use receipts::Index;
 use receipts::is_rejected;
 use receipts::push;
+use start::Listed;
 use start::Stage;
+use start::Start;
 use start::StartKind;
 use start::StartOutcome;
 use start::Starting;
@@ -24,10 +27,10 @@ use start::opened;
 use start::start_fell_back;
 ghost use mathlib.Core.Bool.{true, false};
 ghost use mathlib.Core.Path.{_≡_};
-ghost use Rattle.rules.specs.Protocol.{Calls, Tick, UpdateState, EmergencyStop, PollEstop, RecoverLocal, Acquire, Renew, Cancel, Submit, Replies, Observed as ObservedReply, Executed, FellBack, Recorded, Call, Reply};
-ghost use Rattle.start.specs.Starts.{isOther, StartSound};
+ghost use Rattle.rules.specs.Protocol.{Calls, Tick, UpdateState, EmergencyStop, PollEstop, RecoverLocal, Acquire, Renew, Cancel, Submit, Replies, Observed as ObservedReply, Executed, FellBack, Recorded, Call, Reply, start as startRule};
+ghost use Rattle.start.specs.Starts.{isOther, startOf, StartSound};
 ghost use Rattle.orders.specs.Replies.{observationIn};
-ghost use Rattle.steps.specs.Runtimes.{answerOf, isStarted, storesAt, stores as storesOf, Placed, Placing, Settles, Ready, stay, Turns, startAnswerOf, Empties, Begins, withStart, StartTurns};
+ghost use Rattle.steps.specs.Runtimes.{answerOf, isStarted, storesAt, stores as storesOf, Placed, Placing, Settles, Ready, stay, Turns, startAnswerOf, Empties, Begins, startWith, Moves, withStart, StartTurns};
 
 // All of the ring of receipts but its slots: the index, and the slot numbers at the places of the two circles.
 pub struct Places {
@@ -79,6 +82,12 @@ pub struct StartStep {
     pub places: Places,
     pub slot: usize,
     pub receipt: Receipt,
+}
+
+// What a new start leaves: a runtime.
+pub struct Created {
+    pub answer: Answer,
+    pub runtime: Runtime,
 }
 
 // The places with one more receipt, and the slot that it goes to.
@@ -404,6 +413,35 @@ fn begun(outcome: StartOutcome) -> StartStep
         places: no_places(),
         slot: 64,
         receipt: receipt,
+    }
+}
+
+// `Runtime::new` with the list as a start holds it.
+pub fn new(config: Config, listed: Listed, boot_id: u64, now: u64, flags: u32) -> Created
+    ensures { λ r. ⌜ Moves (r .runtime) (r .answer) (startRule (startOf (startWith config listed «boot_id» now flags))) ⌝ }
+{
+    let capabilities = listed.records;
+    let step = begun(start::new(Start {
+        config: config,
+        capabilities: capabilities,
+        count: listed.count,
+        boot_id: boot_id,
+        now: now,
+        flags: flags,
+    }));
+    let answer = step.answer;
+    let starting = step.starting;
+    let core = step.core;
+    let places = step.places;
+    let receipt = step.receipt;
+    Created {
+        answer: answer,
+        runtime: Runtime {
+            starting: starting,
+            core: core,
+            places: places,
+            slots: [receipt; 65],
+        },
     }
 }
 

@@ -10,14 +10,15 @@ use Rattle.words.proofs.Over.{length-over}
 use Rattle.words.proofs.Ends.{length-bytesOf}
 use Rattle.session.specs.declared.Session.{Session}
 use Rattle.session.specs.Records.{opening}
-use Rattle.session.specs.Sessions.{Listing, phaseIn, Stands, SessionSound}
+use Rattle.start.specs.Starts.{Listing}
+use Rattle.session.specs.Sessions.{phaseIn, Stands, SessionSound}
 use Rattle.wire_counters.specs.Placed.{Placed}
 
 pub placed-fresh : {s : Session} → SessionSound s × Stands s opening → Placed s
 placed-fresh h = record { sound = h .0; standing = opening; stands = h .1 }
 
 -- any session that is sound and lists something stands at its own phase
-pub placed-at : (s : Session) → SessionSound s → {l : List Capability} → Listing (s .count) (s .listed) l → Placed s
+pub placed-at : (s : Session) → SessionSound s → {l : List Capability} → Listing (s .listed) l → Placed s
 placed-at s h {l} n = record { sound = h; standing = record { listed = l; phase = phaseIn s }; stands = record { listing = n; phase = refl } }
 
 pub kept-length : (i : ℕ) {n : ℕ} (entry out out′ ws : List ℕ) → i < n → 208 * n ≤ length entry → length out ≡ length entry → length ws ≡ 26

@@ -57,7 +57,7 @@ loop-again c =
     let p = c .before .before .before .before .before .before .before .before .before .before .before .before .before .pre in
     let u = c .before .before .before .before .before .before .step in
     let o = c .before .before .put-record in
-    (next-count _ _ (t .taken), (u .ensures, kept-length (l .i) (c .before .before .before .before .before .before .before .before .before .before .before .before .before .args .output .now) (l .output) _ (u .result .words) (t .taken) (p .1) (l .inv .1 .1) (search needs) (o .ensures)))
+    (next-count _ _ (t .taken), (u .ensures, kept-length (l .i) (c .before .before .before .before .before .before .before .before .before .before .before .before .before .args .output .now) (l .output) _ (u .result .words) (t .taken) (p .1) (l .inv .1 .1) (search (u .ok .1 .1 .1 .0, needs)) (o .ensures)))
 
 same-length : tie.Need-same-length Inv-loop μ-loop
 same-length c = c .before .loop .inv .1 .1

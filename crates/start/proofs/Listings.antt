@@ -1,53 +1,55 @@
--- The list that an array and a count stand for: one more, and what a start makes of it. Assumes nothing.
-use Prim.Native.Nat.{ℕ, zero, suc, _+_, _-_, _≤_, _<_}
+-- The list that is listed for a start: one more, and what a start makes of it. Assumes nothing.
+use Prim.Native.Nat.{ℕ, _+_, _-_, _≤_, _<_, min}
 use mathlib.Core.Bool.{Bool, true, false, cond, _||_}
 use mathlib.Core.List.{List, [], _∷_, _++_, append-nil}
 use mathlib.Core.Option.{some}
 use mathlib.Core.Path.{_≡_, refl, ap, _∙_}
-use native.Mathlib.Nat.{not-suc-le-zero, le-of-suc-le-suc}
 use native.Mathlib.Numerals.{add-one}
 use native.Mathlib.Omega.{arith}
 use borrow.Author.Tests.{lt-ltb, ltb-true, ltb-false}
 use lib.Dec.{eqb, ltb}
 use lib.ListN.{length, take, set, replicate, length-append, length-set, length-take}
+use lib.Seq.{take-all, take-suc-set}
 use Rattle.model.specs.declared.Capability.{Capability}
 use Rattle.model.specs.Records.{noCapability}
 use Rattle.model.specs.Reasons.{invalidBootId, invalidConfig}
 use Rattle.rules.specs.Protocol as Protocol
 use Rattle.rules.specs.Protocol.{badConfig, refusedStart, startUnless, start as startRule}
+use Rattle.start.specs.declared.Listed.{Listed}
 use Rattle.start.specs.declared.Start.{Start}
-use Rattle.start.specs.Starts.{listed, startOf}
-use Rattle.session.specs.Sessions.{Listing}
-
--- the first elements with one more stored behind them
-take-set : {A : Type 0} (l : List A) (n : ℕ) (x : A) → n < length l → take (suc n) (set l n x) ≡ take n l ++ (x ∷ [])
-take-set [] n x h = absurd (not-suc-le-zero h)
-take-set (y ∷ ys) zero x h = refl
-take-set {A = A} (y ∷ ys) (suc n) x h = ap (λ (l : List A). y ∷ l) (take-set ys n x (le-of-suc-le-suc h))
+use Rattle.start.specs.Starts.{listed, startOf, Listing}
 
 one-longer : (l : List Capability) (c : Capability) → length (l ++ (c ∷ [])) ≡ length l + 1
 one-longer l c = length-append l (c ∷ [])
 
-pub listing-none : (array : List Capability) → length array ≡ 16 → Listing 0 array []
-listing-none array e = record { room = e; counted = refl; same = λ h. refl }
-
-module _ {n : ℕ} {array l : List Capability} (c : Capability) (k : Listing n array l) where
-  pub listing-more : n < 16 → Listing (n + 1) (set array n c) (l ++ (c ∷ []))
+module _ (s : Listed) (l : List Capability) (c : Capability) (k : Listing s l) where
+  pub listing-more : s .count < 16 → Listing (record { records = set (s .records) (s .count) c; count = s .count + 1 }) (l ++ (c ∷ []))
   listing-more h =
       let e′ = one-longer l c in
       let d = k .counted in
       let e = k .room in
       record {
-        room = length-set array n c ∙ e;
+        room = length-set (s .records) (s .count) c ∙ e;
         counted = rw e′ (omega arith);
-        same = λ t. rw (add-one n, take-set array n c (omega arith), k .same (omega arith));
+        same = λ t. rw (add-one (s .count), take-suc-set (s .records) (s .count) c (omega arith), k .same (omega arith));
       }
 
-  pub listing-full : 16 ≤ n → Listing 17 array (l ++ (c ∷ []))
+  pub listing-full : 16 ≤ s .count → Listing (record { records = s .records; count = 17 }) (l ++ (c ∷ []))
   listing-full h =
       let e′ = one-longer l c in
       let d = k .counted in
       record { room = k .room; counted = rw e′ (omega arith); same = λ t. absurd (omega arith) }
+
+-- the first 17 of a list say as much as all of it
+pub listing-enough : (s : Listed) (l : List Capability) → Listing s (take (min 17 (length l)) l) → Listing s l
+listing-enough s l k =
+    let e = length-take (min 17 (length l)) l in
+    let d = k .counted in
+    record {
+      room = k .room;
+      counted = d ∙ ap (min 17) e ∙ omega arith;
+      same = λ t. k .same (rw e (omega arith)) ∙ take-all (min 17 (length l)) l (omega arith);
+    }
 
 -- a start of a list above 16 is refused, by its boot number or its length, whichever the records are
 bad-long : (s : Protocol.Start) → 16 < length (s .capabilities) → badConfig (s .config) (length (s .capabilities)) ≡ true
@@ -78,7 +80,10 @@ start-long s s′ e h h′ =
 abbrev startOn : Start → List Capability → Protocol.Start
 startOn s l = record { config = s .config; capabilities = l; bootId = s .«boot_id»; now = s .now; flags = s .flags }
 
-module _ (s : Start) (l : List Capability) (k : Listing (s .count) (s .capabilities) l) where
+abbrev listedIn : Start → Listed
+listedIn s = record { records = s .capabilities; count = s .count }
+
+module _ (s : Start) (l : List Capability) (k : Listing (listedIn s) l) where
   listed-short : length l ≤ 16 → listed (s .count) (s .capabilities) ≡ l
   unfolding listed
   listed-short h =
