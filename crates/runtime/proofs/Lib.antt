@@ -8,3 +8,4 @@ pub mod Walk1
 pub mod Walk2
 pub mod Walk3
 pub mod WalkStart
+pub mod WalkNew

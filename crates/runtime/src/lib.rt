@@ -1,6 +1,7 @@
 // The thin outer layer (runtime.rs: the public functions of `Runtime`): each call and reply over a lent `Runtime`, which is taken apart, handed by
 // value to `steps`, and altered in place; the receipts are not copied. No decision is made here. Promises: the runtime stands where the rules'
 // `react` says, the answer is its output, and it stays sound; a reading shows what the rules' `read` does. Rests on `steps` and `readings`.
+use model::Capability;
 use model::Config;
 use model::LeaseRequest;
 use model::LeaseSlot;
@@ -9,13 +10,29 @@ use model::RuntimeState;
 use model::Submission;
 use orders::Observed;
 use readings::CapabilitySlot;
+use start::Listed;
 use steps::Answer;
+use steps::Created;
 use steps::Runtime;
-ghost use Rattle.rules.specs.Protocol.{react, Calls, Tick, UpdateState, EmergencyStop, PollEstop, RecoverLocal, Acquire, Renew, Cancel, Submit, Replies, Observed as ObservedReply, Executed, FellBack, Recorded};
+ghost use Rattle.rules.specs.Protocol.{react, Calls, Tick, UpdateState, EmergencyStop, PollEstop, RecoverLocal, Acquire, Renew, Cancel, Submit, Replies, Observed as ObservedReply, Executed, FellBack, Recorded, start as startRule};
 ghost use Rattle.rules.specs.Protocol.{ReadState, ReadEpoch, ReadBootId, ReadFlags, ReadConfig, OfState, OfNumber, OfConfig};
 ghost use Rattle.readings.specs.Readings.{IsRead, LeaseRead, CapabilityRead};
 ghost use Rattle.orders.specs.Replies.{observationIn};
-ghost use Rattle.steps.specs.Runtimes.{phaseIn, RuntimeSound, Moves};
+ghost use Rattle.steps.specs.Runtimes.{phaseIn, RuntimeSound, Moves, startOn};
+
+// A start. The records are copied one by one; the first 17 tell as much as all of them.
+pub fn new(config: Config, list: &[Capability], boot_id: u64, time: u64, flags: u32) -> Created
+    ensures { λ r. ⌜ Moves (r .runtime) (r .answer) (startRule (startOn config (now (list .entry)) «boot_id» time flags)) ⌝ }
+{
+    let count = Listed::enough(list.len());
+    let mut listed = Listed::empty();
+    let mut i: usize = 0;
+    while i < count {
+        listed = listed.with(list[i]);
+        i = i + 1;
+    }
+    steps::new(config, listed, boot_id, time, flags)
+}
 
 // calls ----------------------------------------------------------------------------------------------------------------
 
