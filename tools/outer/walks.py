@@ -7,17 +7,19 @@ Its functions over a lent `Runtime` have one of two shapes. A call copies the
 stage, the core and the places out of the runtime, calls a function of `steps`
 with them and the parameters, and stores the core, the places and one slot; in
 the variant `start` it takes and stores the whole start, not its stage alone.
-A reading copies the core out and calls a function of `readings`.
+A reading copies the core or the places out, or both, and calls a function of
+`readings` or `steps`; in the variant `slot` that function tells a slot, and a
+second one is called with the slot's number and its receipt.
 
-proofs/Walk0 to Walk3, WalkStart, Look0 and Look1 walk a shape for a number of
-parameters, over types that are variables: with the runtime's own types, which
-are large, the walk would not end within the prover's limit. Each
+proofs/Walk0 to Walk3, WalkStart and those of LOOKS walk a shape for a number
+of parameters, over types that are variables: with the runtime's own types,
+which are large, the walk would not end within the prover's limit. Each
 proofs/F/Proof takes such a walk at the types of F, with what proofs/Facts
 says of them.
 
 Their text is in templates (*.antt.txt, see templates.py): walk and look, with
-shape for what these two share, and proof, with start for the variant. What
-fills them is here.
+shape for what these two share, and proof, with callee for a function that is
+called, and start and slot for the variants. What fills them is here.
 """
 import os
 import sys
@@ -27,26 +29,27 @@ from templates import fill
 # A receipt's bytes, as the code multiplies by it, and the number of slots.
 SIZE, SLOTS = 144, 65
 
-# The locals of a walk and of a look, behind the result, the reference and the
-# parameters; and those that are passed on, if they are there.
-WALK_LOCALS = ['STAGE', 'CORE', 'PLACES', 'STEP', 'BYTES', 'ARRAY', 'ITEM']
-LOOK_LOCALS = ['CORE']
-PASSED = ['STAGE', 'CORE', 'PLACES']
+# The locals of a walk, and of a look of the variant `slot`, behind the result,
+# the reference, the parameters and the parts of the runtime.
+WALK_LOCALS = ['STEP', 'BYTES', 'ARRAY', 'ITEM']
+SLOT_LOCALS = ['SLOT', 'RECEIPT', 'BYTES', 'ARRAY', 'ITEM', 'COPY']
 
-# The parts of the runtime that a walk copies, in the order of its fields.
+# The parts of the runtime that are copied, in the order of its fields, and
+# where those lie that a look copies.
 PARTS = {'G': 'stage', 'K': 'core', 'L': 'places'}
+OFFSETS = {'K': 784, 'L': 4488}
 # The fields of a step: the answer, parts of the runtime, the slot's number and
 # its receipt.
 STAGE_FIELDS, START_FIELDS, NUMBER_FIELD = 'OKLNE', 'OGKLNE', 'N'
 
 # The types that a proof names: the crate, the type, and its letter.
-RUNTIME = ('steps', 'Runtime', 'T')
-CORE = ('machine', 'Core', 'K')
-CALL_TYPES = [
-    RUNTIME, ('start', 'Starting', 'S'), ('start', 'Stage', 'G'), CORE,
+READING_TYPES = [
+    ('steps', 'Runtime', 'T'), ('machine', 'Core', 'K'),
     ('steps', 'Places', 'L'), ('model', 'Receipt', 'E'),
 ]
-READING_TYPES = [RUNTIME, CORE]
+CALL_TYPES = READING_TYPES + [
+    ('start', 'Starting', 'S'), ('start', 'Stage', 'G'),
+]
 # Those of the types of other crates that are enums; the rest are structs.
 ENUMS = {'RuntimeState'}
 
@@ -82,20 +85,51 @@ CALLS = {
 # Those of the variant `start`.
 STARTS = {'fell_back'}
 
-# Of each reading: its parameters, its result, and what is said of the core c
-# and the result r.
+# The looks: the number of parameters and the parts that are copied.
+LOOKS = {
+    'Look0': (0, 'K'), 'Look1': (1, 'K'), 'LookPlaces': (0, 'L'),
+    'LookBoth': (0, 'KL'), 'LookSlot': (1, 'L'),
+}
+# The variant `slot`: the functions that are called.
+SLOT, SLOT_CALLEES = 'LookSlot', ['slot_at', 'receipt_in']
+
+# Of each reading: its look, its parameters, its result, what the function that
+# is called says of the runtime h and of what it gives r, and how what is shown
+# follows from that, e; and from the runtime's soundness, good, if it is asked
+# for.
+INDEX = ('index', 'usize')
+IN_CORE = 'e (receiptsOf (h .places) (h .slots))'
 READINGS = {
     'state': (
-        [], ('model', 'RuntimeState'), 'IsRead c ReadState (OfState r)'),
-    'epoch': ([], 'u64', 'IsRead c ReadEpoch (OfNumber r)'),
-    'boot_id': ([], 'u64', 'IsRead c ReadBootId (OfNumber r)'),
-    'flags': ([], 'u32', 'IsRead c ReadFlags (OfNumber r)'),
+        'Look0', [], ('model', 'RuntimeState'),
+        'IsRead (h .core) ReadState (OfState r)', IN_CORE),
+    'epoch': (
+        'Look0', [], 'u64', 'IsRead (h .core) ReadEpoch (OfNumber r)',
+        IN_CORE),
+    'boot_id': (
+        'Look0', [], 'u64', 'IsRead (h .core) ReadBootId (OfNumber r)',
+        IN_CORE),
+    'flags': (
+        'Look0', [], 'u32', 'IsRead (h .core) ReadFlags (OfNumber r)',
+        IN_CORE),
     'lease': (
-        [('axis', 'u8')], ('model', 'LeaseSlot'), 'LeaseRead c axis r'),
+        'Look1', [('axis', 'u8')], ('model', 'LeaseSlot'),
+        'LeaseRead (h .core) axis r', 'lease-shown h e'),
     'capability': (
-        [('index', 'usize')], ('readings', 'CapabilitySlot'),
-        'CapabilityRead c index r'),
-    'config': ([], ('model', 'Config'), 'IsRead c ReadConfig (OfConfig r)'),
+        'Look1', [INDEX], ('readings', 'CapabilitySlot'),
+        'CapabilityRead (h .core) index r', 'capability-shown h e'),
+    'receipt_count': (
+        'LookPlaces', [], 'usize', 'Counts (h .places) r',
+        'count-shown h good e'),
+    'config': (
+        'Look0', [], ('model', 'Config'),
+        'IsRead (h .core) ReadConfig (OfConfig r)', IN_CORE),
+    'snapshot': (
+        'LookBoth', [], ('model', 'Snapshot'),
+        'SnapshotRead (h .core) (h .places) r', 'snapshot-shown h good e'),
+    'receipt': (
+        SLOT, [INDEX], ('receipts', 'KeptReceipt'),
+        'Finds (h .places) index r', 'receipt-shown h good d e'),
 }
 
 
@@ -104,9 +138,12 @@ def when(condition):
     return [{}] if condition else []
 
 
-def variants(start):
-    """The lists of the two variants of the calls."""
-    return {'stage': when(not start), 'start': when(start)}
+def variants(start=None, slot=None):
+    """The lists of the variants, of the calls or of the readings."""
+    return {
+        'stage': when(start is False), 'start': when(start),
+        'plain': when(slot is False), 'slot': when(slot),
+    }
 
 
 def spots(name, local, count):
@@ -120,12 +157,11 @@ def spots(name, local, count):
 
 
 def step_lists(start):
-    """What is copied out of the runtime, given by the step, and stored."""
+    """What is given by the step, and stored."""
     letters = START_FIELDS if start else STAGE_FIELDS
     fields = [{'X': x, 'FROM': i} for i, x in enumerate(letters)]
     place = {x: i for i, x in enumerate(PARTS)}
     return {
-        'copied': [{'X': x, 'PART': part} for x, part in PARTS.items()],
         'fields': fields,
         'given': [field for field in fields if field['X'] != NUMBER_FIELD],
         'stored': [{**field, 'TO': place[field['X']]}
@@ -133,22 +169,72 @@ def step_lists(start):
     }
 
 
-def shape(template, params, own, start=False):
-    """A walk with so many parameters, whose own locals have these names."""
-    first = 2 + params
-    count = first + len(own)
+def function(given, value, machine, said, known):
+    """The names of a function that is called: of the type that it gives, and
+    of a value, its machine value, what is said and what is known of it.
+    """
+    return {
+        'I': '', 'R': given, 'OF': '', 'ALL': '', 'AT': '',
+        'CONTRACT': 'Callee', 'MET': 'known',
+        'IT': value, 'AS': machine, 'WHY': said, 'IS': known,
+    }
+
+
+def functions(template, slot):
+    """The functions that are called. All of a second is by the number s that
+    the first gives.
+    """
+    letter = 'R' if template == 'walk' else 'O'
+    last = function(letter, 'r', 'v', 'e', 'is')
+    if not slot:
+        return [last]
+    return [function('usize', 's', 'u', 'd', 'n-is'), {
+        **last, 'I': '₂', 'OF': 'ℕ → ', 'ALL': '(s : ℕ) → ', 'AT': ' s',
+        'CONTRACT': '(Callee₂ s)', 'MET': '(known₂ s d (@NUMBER_IS@))',
+    }]
+
+
+def copied(template, parts, places):
+    """The parts that are copied, each with the names of its local."""
+    fields = list(PARTS)
+    for x in parts:
+        value = f'{PARTS[x]} h'
+        yield {
+            'X': x, 'PART': PARTS[x], 'TO': fields.index(x),
+            'VALUE': f'v{x} ({value})' if template == 'walk' else value,
+            **places[PARTS[x].upper()],
+        }
+
+
+def shape(template, params, parts, own=(), start=None):
+    """A walk with so many parameters that copies these parts, and whose own
+    locals have these names.
+    """
+    first, slot = 2 + params, 'SLOT' in own
+    named = [PARTS[x].upper() for x in parts] + list(own)
+    count = first + len(named)
     every = [spots('L', local, count) for local in range(count)]
-    numbers = {name: first + i for i, name in enumerate(own)}
-    passed = [numbers[name] for name in PASSED if name in numbers]
+    numbers = {name: first + i for i, name in enumerate(named)}
+    ahead = 3 if template == 'look' and not slot else 5
+    passed = every[first:first + len(parts)] + every[2:first]
+    places = {name: every[local] for name, local in numbers.items()}
+    calls = functions(template, slot)
     lists = {
         'walk': when(template == 'walk'), 'look': when(template == 'look'),
-        **variants(start), **step_lists(start),
+        'item': when('ITEM' in own), **step_lists(start),
+        **variants(start, slot if template == 'look' else None),
         'params': [{'I': i, **spots('P', 2 + i, count)}
                    for i in range(params)],
-        'passed': [every[local] for local in passed] + every[2:first],
+        'copied': list(copied(template, parts, places)),
+        'passed': [{**spot, 'SPOT': spot[f'L+{ahead}']} for spot in passed],
         'locals': every, 'localsBack': every[::-1],
+        'calls': calls, 'last': calls[-1:],
     }
-    names = {'M': params, 'PARAMS': params + 1, 'SIZE': SIZE, 'SLOTS': SLOTS}
+    names = {
+        'M': params, 'PARAMS': params + 1, 'SIZE': SIZE, 'SLOTS': SLOTS,
+        'COPIED': ' and the '.join(PARTS[x] for x in parts)
+                  + (' is' if parts == 'K' else ' are'),
+    }
     names.update({f'END+{i}': 2 * count + i for i in range(3)})
     names.update({f'from{f["X"]}': f['FROM'] for f in lists['fields']})
     for name, local in {'RESULT': 0, 'RUNTIME': 1, **numbers}.items():
@@ -233,15 +319,25 @@ def parameters(params):
     return entries, uses
 
 
-def proof(fn, entries, uses, names, lists):
-    """The proof of a function, with the names and lists of its sort."""
+def proof(fn, callees, parts, params, uses, names, lists):
+    """The proof of a function that calls these with these parts, with the
+    lines, names and lists of its sort.
+    """
+    entries, needed = parameters(params)
+    held = [{'X': x, 'PART': PARTS[x], 'OFFSET': OFFSETS[x]} for x in parts]
+    closed = len(held) + len(lists['call'])
     names = {
         'FN': fn, 'NAME': fn.replace('_', '-'), 'PARAMS': len(entries) + 1,
         'ARGS': ' '.join(entry['X'] for entry in entries),
-        'CLOSE': ')' * len(entries), **names,
+        'CLOSE': ')' * len(entries), 'HELD_CLOSE': ')' * closed,
+        'SLOTS': SLOTS, 'NONE': '', **names,
     }
     lists = {
-        'uses': [{'USE': line} for line in dict.fromkeys(uses)],
+        'uses': [{'USE': line} for line in dict.fromkeys(uses + needed)],
+        'callees': [{'I': i, 'G_FN': g, 'G_KEY': g.replace('_', '-')}
+                    for i, g in zip(['', '₂'], callees)],
+        'held': held, 'heldBack': held[::-1],
+        'looked': held if lists['reading'] else [],
         'params': entries, 'paramsBack': entries[::-1], **lists,
     }
     return fill('proof', names, lists)
@@ -249,46 +345,51 @@ def proof(fn, entries, uses, names, lists):
 
 def call(fn, params, says):
     """The proof of a call or a reply."""
-    entries, needed = parameters(params)
     start, count = fn in STARTS, len(params)
     step = ('steps', 'StartStep' if start else 'Step', 'R')
     types = CALL_TYPES + [step, ('steps', 'Answer', 'O')]
-    uses = [line for named in types for line in declared(*named)] + needed
+    uses = [line for named in types for line in declared(*named)]
     names = {
         'CALLEE': 'steps', 'SAYS': says,
         'SHAPE': 'WalkStart' if start else f'Walk{count}',
-        'STEP': 2 + count + WALK_LOCALS.index('STEP'),
+        'STEP': 2 + count + len(PARTS),
     }
     lists = {
-        'call': when(True), 'reading': when(False), **variants(start),
-        'observed': when('observationIn' in says),
+        'call': when(True), 'reading': when(False), **variants(start=start),
+        'good': when(True), 'free': when(False), 'asked': when(False),
+        'inside': when(True), 'observed': when('observationIn' in says),
     }
-    return proof(fn, entries, uses, names, lists)
+    return proof(fn, [fn], 'KL', params, uses, names, lists)
 
 
-def reading(fn, params, result, says):
+def reading(fn, look, params, result, says, shown):
     """The proof of a reading."""
-    entries, needed = parameters(params)
-    given, last = spelling(result, 'O')
-    types = [line for named in READING_TYPES for line in declared(*named)]
+    slot, good = look == SLOT, 'good' in shown
+    given, needed = spelling(result, 'O')
+    uses = [line for named in READING_TYPES for line in declared(*named)]
     names = {
-        'CALLEE': 'readings', 'SAYS': says, 'SHAPE': f'Look{len(params)}',
-        **{f'R_{name}': text for name, text in given.items()},
+        'CALLEE': 'steps' if good else 'readings', 'SAYS': says,
+        'SHOWN': shown, 'SHAPE': look,
+        **{f'O_{name}': text for name, text in given.items()},
     }
     lists = {
-        'call': when(False), 'reading': when(True),
-        'stage': when(False), 'start': when(False), 'observed': when(False),
+        'call': when(False), 'reading': when(True), **variants(slot=slot),
+        'good': when(good), 'free': when(not good), 'asked': when(good),
+        'inside': when(slot), 'observed': when(False),
     }
-    return proof(fn, entries, types + needed + last, names, lists)
+    callees, parts = SLOT_CALLEES if slot else [fn], LOOKS[look][1]
+    return proof(fn, callees, parts, params, uses + needed, names, lists)
 
 
 def texts():
     """The files and what is in them."""
-    for params in range(4):
-        yield f'Walk{params}.antt', shape('walk', params, WALK_LOCALS)
-    yield 'WalkStart.antt', shape('walk', 1, WALK_LOCALS, start=True)
-    for params in range(2):
-        yield f'Look{params}.antt', shape('look', params, LOOK_LOCALS)
+    walks = {f'Walk{params}': (params, False) for params in range(4)}
+    for name, (params, start) in {**walks, 'WalkStart': (1, True)}.items():
+        text = shape('walk', params, 'GKL', WALK_LOCALS, start)
+        yield f'{name}.antt', text
+    for name, (params, parts) in LOOKS.items():
+        own = SLOT_LOCALS if name == SLOT else []
+        yield f'{name}.antt', shape('look', params, parts, own)
     for fn, given in CALLS.items():
         yield f'{fn}/Proof.antt', call(fn, *given)
     for fn, given in READINGS.items():

@@ -56,7 +56,7 @@ use start::start_replied;
 ghost use mathlib.Core.Logic.{_≢_};
 ghost use mathlib.Core.Path.{_≡_};
 ghost use Rattle.rules.specs.Protocol.{react, Shows, OfLease, OfCapability, OfReceipt, read as readRule};
-ghost use Rattle.receipts.specs.Rings.{Kept, receiptsOf};
+ghost use Rattle.receipts.specs.Rings.{Kept, receiptsOf, receiptIn};
 ghost use Rattle.machine.specs.Machine.{leaseIn, bookOf, phaseOf, itemOf, outputAt, Sound, Gives};
 ghost use Rattle.start.specs.declared.Stage.the-variants.{Started};
 ghost use Rattle.start.specs.Starts.{startPhaseOf, startOutputAt, StartSound, StartGives};
@@ -64,7 +64,6 @@ ghost use Rattle.orders.specs.Replies.{observationIn};
 ghost use Rattle.readings.specs.Readings.{capabilityIn};
 ghost use Rattle.format.specs.Decode.{observedOf, turnOf, readingOf};
 ghost use Rattle.format.specs.Encode.{itemWords, valueWords, encode};
-ghost use Rattle.exchange.specs.Slots.{receiptIn};
 
 // The driver's reply to an observation.
 fn observed_of(words: [u64; 16]) -> Observed

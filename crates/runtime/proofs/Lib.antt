@@ -2,6 +2,9 @@ pub mod Facts
 pub mod Item
 pub mod Look0
 pub mod Look1
+pub mod LookBoth
+pub mod LookPlaces
+pub mod LookSlot
 pub mod RawPart
 pub mod Walk0
 pub mod Walk1

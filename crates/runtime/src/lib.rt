@@ -7,18 +7,19 @@ use model::LeaseRequest;
 use model::LeaseSlot;
 use model::Renewal;
 use model::RuntimeState;
+use model::Snapshot;
 use model::Submission;
 use orders::Observed;
 use readings::CapabilitySlot;
+use receipts::KeptReceipt;
 use start::Listed;
 use steps::Answer;
 use steps::Created;
 use steps::Runtime;
 ghost use Rattle.rules.specs.Protocol.{react, Calls, Tick, UpdateState, EmergencyStop, PollEstop, RecoverLocal, Acquire, Renew, Cancel, Submit, Replies, Observed as ObservedReply, Executed, FellBack, Recorded, start as startRule};
-ghost use Rattle.rules.specs.Protocol.{ReadState, ReadEpoch, ReadBootId, ReadFlags, ReadConfig, OfState, OfNumber, OfConfig};
-ghost use Rattle.readings.specs.Readings.{IsRead, LeaseRead, CapabilityRead};
+ghost use Rattle.rules.specs.Protocol.{ReadState, ReadEpoch, ReadBootId, ReadFlags, ReadReceiptCount, ReadConfig, ReadSnapshot, OfState, OfNumber, OfConfig, OfSnapshot};
 ghost use Rattle.orders.specs.Replies.{observationIn};
-ghost use Rattle.steps.specs.Runtimes.{phaseIn, RuntimeSound, Moves, startOn};
+ghost use Rattle.steps.specs.Runtimes.{phaseIn, RuntimeSound, Moves, startOn, Shown, LeaseShown, CapabilityShown, ReceiptShown};
 
 // A start. The records are copied one by one; the first 17 tell as much as all of them.
 pub fn new(config: Config, list: &[Capability], boot_id: u64, time: u64, flags: u32) -> Created
@@ -225,50 +226,77 @@ pub fn recorded(rt: &mut Runtime) -> Answer
 // readings -------------------------------------------------------------------------------------------------------------
 
 pub fn state(rt: &Runtime) -> RuntimeState
-    ensures { λ r. ⌜ IsRead (now (rt .entry) .core) ReadState (OfState r) ⌝ }
+    ensures { λ r. ⌜ Shown (now (rt .entry)) ReadState (OfState r) ⌝ }
 {
     let core = rt.core;
     readings::state(core)
 }
 
 pub fn epoch(rt: &Runtime) -> u64
-    ensures { λ r. ⌜ IsRead (now (rt .entry) .core) ReadEpoch (OfNumber r) ⌝ }
+    ensures { λ r. ⌜ Shown (now (rt .entry)) ReadEpoch (OfNumber r) ⌝ }
 {
     let core = rt.core;
     readings::epoch(core)
 }
 
 pub fn boot_id(rt: &Runtime) -> u64
-    ensures { λ r. ⌜ IsRead (now (rt .entry) .core) ReadBootId (OfNumber r) ⌝ }
+    ensures { λ r. ⌜ Shown (now (rt .entry)) ReadBootId (OfNumber r) ⌝ }
 {
     let core = rt.core;
     readings::boot_id(core)
 }
 
 pub fn flags(rt: &Runtime) -> u32
-    ensures { λ r. ⌜ IsRead (now (rt .entry) .core) ReadFlags (OfNumber r) ⌝ }
+    ensures { λ r. ⌜ Shown (now (rt .entry)) ReadFlags (OfNumber r) ⌝ }
 {
     let core = rt.core;
     readings::flags(core)
 }
 
 pub fn lease(rt: &Runtime, axis: u8) -> LeaseSlot
-    ensures { λ r. ⌜ LeaseRead (now (rt .entry) .core) axis r ⌝ }
+    ensures { λ r. ⌜ LeaseShown (now (rt .entry)) axis r ⌝ }
 {
     let core = rt.core;
     readings::lease(core, axis)
 }
 
 pub fn capability(rt: &Runtime, index: usize) -> CapabilitySlot
-    ensures { λ r. ⌜ CapabilityRead (now (rt .entry) .core) index r ⌝ }
+    ensures { λ r. ⌜ CapabilityShown (now (rt .entry)) index r ⌝ }
 {
     let core = rt.core;
     readings::capability(core, index)
 }
 
+pub fn receipt_count(rt: &Runtime) -> usize
+    requires { ⌜ RuntimeSound (now rt) ⌝ }
+    ensures { λ r. ⌜ Shown (now (rt .entry)) ReadReceiptCount (OfNumber r) ⌝ }
+{
+    let places = rt.places;
+    steps::receipt_count(places)
+}
+
 pub fn config(rt: &Runtime) -> Config
-    ensures { λ r. ⌜ IsRead (now (rt .entry) .core) ReadConfig (OfConfig r) ⌝ }
+    ensures { λ r. ⌜ Shown (now (rt .entry)) ReadConfig (OfConfig r) ⌝ }
 {
     let core = rt.core;
     readings::config(core)
+}
+
+pub fn snapshot(rt: &Runtime) -> Snapshot
+    requires { ⌜ RuntimeSound (now rt) ⌝ }
+    ensures { λ r. ⌜ Shown (now (rt .entry)) ReadSnapshot (OfSnapshot r) ⌝ }
+{
+    let core = rt.core;
+    let places = rt.places;
+    steps::snapshot(core, places)
+}
+
+pub fn receipt(rt: &Runtime, index: usize) -> KeptReceipt
+    requires { ⌜ RuntimeSound (now rt) ⌝ }
+    ensures { λ r. ⌜ ReceiptShown (now (rt .entry)) index r ⌝ }
+{
+    let places = rt.places;
+    let slot = steps::slot_at(places, index);
+    let receipt = rt.slots[slot];
+    steps::receipt_in(slot, receipt)
 }

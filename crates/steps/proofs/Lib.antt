@@ -1,5 +1,6 @@
 pub mod Outcomes
 pub mod Placements
+pub mod Readings
 pub mod Sizes
 pub mod Standings
 pub mod Starts

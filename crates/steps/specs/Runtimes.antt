@@ -1,18 +1,27 @@
--- What a runtime stands for, and what a step on its parts promises.
+-- What a runtime stands for, what a step on its parts promises, and what its readings show.
 use Prim.Native.Nat.{ℕ, _<_}
-use mathlib.Core.Bool.{Bool, true, false}
+use mathlib.Core.Bool.{Bool, true, false, cond}
 use mathlib.Core.List.{List, []}
+use mathlib.Core.Option.{Option, some, none}
 use mathlib.Core.Path.{_≡_}
-use lib.ListN.{length, take, set}
+use lib.Dec.{ltb}
+use lib.ListN.{length, take, set, getD, getElem?}
 use Rattle.model.specs.declared.Capability.{Capability}
 use Rattle.model.specs.declared.Config.{Config}
+use Rattle.model.specs.declared.LeaseSlot.{LeaseSlot}
 use Rattle.model.specs.declared.Receipt.{Receipt}
+use Rattle.model.specs.declared.Snapshot.{Snapshot}
 use Rattle.model.specs.Reasons.{noReplyAwaited}
+use Rattle.model.specs.Records.{noLease}
+use Rattle.rules.specs.Book.{Book}
 use Rattle.rules.specs.Interaction.{Returned, Polled, Succeeded, Leased, Refused, Submitted}
 use Rattle.rules.specs.Protocol as Protocol
-use Rattle.rules.specs.Protocol.{Input, Output, StartRefused, Hands, Reminds, Refuses, Answers, Phase, Reaction, react}
+use Rattle.rules.specs.Protocol.{Input, Output, StartRefused, Hands, Reminds, Refuses, Answers, Phase, Reaction, react, Reading, ReadSnapshot, ReadLease, ReadCapability, ReadReceipt, Value, OfSnapshot, OfLease, OfCapability, OfReceipt, read}
+use Rattle.receipts.specs.declared.KeptReceipt.{KeptReceipt}
+use Rattle.receipts.specs.Blank.{blank}
 use Rattle.receipts.specs.Indexes.{Stores, listOf}
 use Rattle.receipts.specs.Indexes as Indexes
+use Rattle.receipts.specs.Rings.{keptAt, receiptIn}
 use Rattle.rules.specs.Receipts.{keep}
 use Rattle.machine.specs.declared.Awaited.{Awaited}
 use Rattle.machine.specs.declared.Awaited.the-variants as Awaited
@@ -20,7 +29,9 @@ use Rattle.machine.specs.declared.Core.{Core}
 use Rattle.machine.specs.declared.Kind.{Kind}
 use Rattle.machine.specs.declared.Kind.the-variants as Kind
 use Rattle.machine.specs.declared.Outcome.{Outcome}
-use Rattle.machine.specs.Machine.{phaseOf, itemOf, keptAfter, Sound}
+use Rattle.machine.specs.Machine.{leaseIn, capabilitiesOf, bookOf, phaseOf, itemOf, keptAfter, Sound}
+use Rattle.readings.specs.declared.CapabilitySlot.{CapabilitySlot}
+use Rattle.readings.specs.Readings.{slotOf, capabilityIn}
 use Rattle.start.specs.declared.Listed.{Listed}
 use Rattle.start.specs.declared.Start.{Start}
 use Rattle.start.specs.declared.Stage.{Stage}
@@ -215,3 +226,42 @@ pub record StartTurns (starting : Starting) (core : Core) (places : Places) (i :
   pub inside : s .slot < 65
   pub moves : (rt : Runtime) → rt .starting ≡ starting → rt .core ≡ core → rt .places ≡ places → RuntimeSound rt
       → Moves (afterStart rt s) (s .answer) (react (phaseIn rt) i)
+
+-- readings ---------------------------------------------------------------------------------------------------------------------
+
+-- the book that a runtime is read by
+abbrev pub bookAt : Runtime → Book
+bookAt rt = bookOf (rt .core) (receiptsOf (rt .places) (rt .slots))
+
+-- a reading of the runtime gives this value: where it has started, what the rules show of its phase (`shown-by-rules`)
+abbrev pub Shown : Runtime → Reading → Value → Type 0
+Shown rt q value = value ≡ read q (bookAt rt)
+
+-- the slot of an axis, blank past the last; and what it holds
+pub record LeaseShown (rt : Runtime) (axis : ℕ) (slot : LeaseSlot) : Type 0 where
+  pub same : slot ≡ getD (rt .core .leases) axis noLease
+  pub value : Shown rt (ReadLease axis) (OfLease (leaseIn slot))
+
+pub record CapabilityShown (rt : Runtime) (index : ℕ) (slot : CapabilitySlot) : Type 0 where
+  pub same : slot ≡ slotOf (getElem? (capabilitiesOf (rt .core)) index)
+  pub value : Shown rt (ReadCapability index) (OfCapability (capabilityIn slot))
+
+pub record ReceiptShown (rt : Runtime) (index : ℕ) (kept : KeptReceipt) : Type 0 where
+  pub same : kept ≡ keptAt (getElem? (receiptsOf (rt .places) (rt .slots)) index)
+  pub value : Shown rt (ReadReceipt index) (OfReceipt (receiptIn kept))
+
+-- what `receipt_count` and `snapshot` promise, whatever stands in the slots
+abbrev pub Counts : Places → ℕ → Type 0
+Counts p n = (slots : List Receipt) → Kept p slots → n ≡ length (receiptsOf p slots)
+
+abbrev pub SnapshotRead : Core → Places → Snapshot → Type 0
+SnapshotRead core p s = (slots : List Receipt) → Kept p slots → OfSnapshot s ≡ read ReadSnapshot (bookOf core (receiptsOf p slots))
+
+-- what stands in a slot is a receipt kept, but in the last
+abbrev pub heldAt : ℕ → Receipt → Option Receipt
+heldAt slot r = cond (ltb slot 64) (some r) none
+
+-- the slot of the receipt at a place from the oldest, the last where there is none
+pub record Finds (p : Places) (index slot : ℕ) : Type 0 where
+  pub inside : slot < 65
+  pub reads : (slots : List Receipt) → Kept p slots → getElem? (receiptsOf p slots) index ≡ heldAt slot (getD slots slot blank)

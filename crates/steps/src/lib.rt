@@ -1,6 +1,7 @@
 // A call or a reply on the parts of a runtime, by value: what `runtime` stores in place. A step hands back the core, the places of the
 // receipts and the slot that a receipt goes to, so that the receipts themselves are never copied. Promises: with that stored, the runtime stands
-// where the rules' `react` says, and is sound. Rests on `calls` and `start` for what happens, and on `receipts` for where a receipt goes.
+// where the rules' `react` says, and is sound; the readings that need the receipts show what the rules' `read` does. Rests on `calls` and `start`
+// for what happens, on `readings` for the snapshot, and on `receipts` for where a receipt goes.
 use machine::Awaited;
 use machine::Core;
 use machine::Kind;
@@ -8,14 +9,20 @@ use machine::Outcome;
 use model::Config;
 use model::LeaseRequest;
 use model::OTHER_REPLY_AWAITED;
+use model::Presence;
 use model::REPLY_AWAITED;
 use model::Reason;
 use model::Receipt;
 use model::Renewal;
+use model::Snapshot;
 use model::Submission;
 use orders::Observed;
+use receipts::Found;
 use receipts::Index;
+use receipts::KeptReceipt;
+use receipts::blank_receipt;
 use receipts::is_rejected;
+use receipts::place_of;
 use receipts::push;
 use start::Listed;
 use start::Stage;
@@ -28,9 +35,10 @@ use start::start_fell_back;
 ghost use mathlib.Core.Bool.{true, false};
 ghost use mathlib.Core.Path.{_≡_};
 ghost use Rattle.rules.specs.Protocol.{Calls, Tick, UpdateState, EmergencyStop, PollEstop, RecoverLocal, Acquire, Renew, Cancel, Submit, Replies, Observed as ObservedReply, Executed, FellBack, Recorded, Call, Reply, start as startRule};
+ghost use Rattle.receipts.specs.Rings.{keptAt};
 ghost use Rattle.start.specs.Starts.{isOther, startOf, StartSound};
 ghost use Rattle.orders.specs.Replies.{observationIn};
-ghost use Rattle.steps.specs.Runtimes.{answerOf, isStarted, storesAt, stores as storesOf, Placed, Placing, Settles, Ready, stay, Turns, startAnswerOf, Empties, Begins, startWith, Moves, withStart, StartTurns};
+ghost use Rattle.steps.specs.Runtimes.{answerOf, isStarted, storesAt, stores as storesOf, Placed, Placing, Settles, Ready, stay, Turns, startAnswerOf, Empties, Begins, startWith, Moves, withStart, StartTurns, Counts, SnapshotRead, heldAt, Finds};
 
 // All of the ring of receipts but its slots: the index, and the slot numbers at the places of the two circles.
 pub struct Places {
@@ -472,4 +480,57 @@ pub fn fell_back(starting: Starting, core: Core, places: Places, ok: bool) -> St
         return with_start(starting, settled(places, calls::fell_back(core, ok)));
     }
     begun(start_fell_back(starting, ok))
+}
+
+// readings -------------------------------------------------------------------------------------------------------------
+
+// How many receipts are kept.
+pub fn receipt_count(places: Places) -> usize
+    requires { ⌜ Placed places ⌝ }
+    ensures { λ r. ⌜ Counts places r ⌝ }
+{
+    let index = places.index;
+    let rejected = index.rejected;
+    let others = index.others;
+    rejected.count + others.count
+}
+
+pub fn snapshot(core: Core, places: Places) -> Snapshot
+    requires { ⌜ Placed places ⌝ }
+    ensures { λ r. ⌜ SnapshotRead core places r ⌝ }
+{
+    readings::snapshot(core, receipt_count(places))
+}
+
+// The slot of the receipt at a place from the oldest; 64 where there is none.
+pub fn slot_at(places: Places, index: usize) -> usize
+    requires { ⌜ Placed places ⌝ }
+    ensures { λ r. ⌜ Finds places index r ⌝ }
+{
+    let order = places.index;
+    let rejected = places.rejected;
+    let others = places.others;
+    let found = place_of(order, index);
+    match found {
+        Found::Rejected(place) => rejected[place] as usize,
+        Found::Other(place) => others[place] as usize,
+        Found::Nothing => 64,
+    }
+}
+
+// What a slot shows, given what stands in it.
+pub fn receipt_in(slot: usize, receipt: Receipt) -> KeptReceipt
+    ensures { λ r. ⌜ r ≡ keptAt (heldAt slot receipt) ⌝ }
+{
+    if slot < 64 {
+        return KeptReceipt {
+            presence: Presence::Present,
+            receipt: receipt,
+        };
+    }
+    let blank = blank_receipt();
+    KeptReceipt {
+        presence: Presence::Absent,
+        receipt: blank,
+    }
 }

@@ -1,4 +1,4 @@
-use Rattle.exchange.specs.Slots.{receiptIf}
+use Rattle.receipts.specs.Rings.{receiptIf}
 use Rattle.format.specs.Encode.{valueWords}
 use borrow.Author.Needs.{needs}
 use Rattle.exchange.proofs.kept_words.Statement.{statement}

@@ -1,13 +1,12 @@
 use Rattle.machine.specs.Machine.{bookOf}
-use Rattle.receipts.specs.Rings.{receiptsOf}
+use Rattle.receipts.specs.Rings.{receiptsOf, receiptIn}
 use Prim.Native.Nat.{ℕ}
 use mathlib.Core.List.{[]}
 use mathlib.Core.Option.{Option}
 use mathlib.Core.Path.{sym, ap, _∙_}
 use Rattle.model.specs.declared.Receipt.{Receipt}
 use Rattle.receipts.specs.declared.KeptReceipt.{KeptReceipt}
-use Rattle.exchange.proofs.SlotLaws.{kept-in}
-use Rattle.exchange.specs.Slots.{receiptIn}
+use Rattle.receipts.proofs.Promises.{kept-in}
 use Rattle.rules.specs.Protocol.{ReadLease, OfReceipt, read}
 use Rattle.format.specs.Decode.{readingOf}
 use Rattle.format.specs.Encode.{encode, valueWords, padded}
