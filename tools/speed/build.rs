@@ -1,13 +1,13 @@
-//! Links the archive that `rt staticlib receipts_speed` writes; the crate `wire` links its own.
+//! Links the archives that `rt staticlib` writes of the loops that are timed; the crate `wire` links its own.
 
 use std::path::Path;
 
 fn main() {
     let folder = Path::new(env!("CARGO_MANIFEST_DIR")).join("../../target/staticlib");
-    println!(
-        "cargo::rerun-if-changed={}",
-        folder.join("libreceipts_speed.a").display()
-    );
     println!("cargo::rustc-link-search=native={}", folder.display());
-    println!("cargo::rustc-link-lib=static=receipts_speed");
+    for name in ["receipts_speed", "runtime_speed"] {
+        let archive = folder.join(format!("lib{name}.a"));
+        println!("cargo::rerun-if-changed={}", archive.display());
+        println!("cargo::rustc-link-lib=static={name}");
+    }
 }

@@ -2,6 +2,10 @@
 //! calls, the same lives for both. The time of the entry is that of a life less that of its
 //! beginning. The decoding and encoding inside it count; the making of the input does not.
 
+use crate::lent::{
+    runtime_speed_acquire_cancel, runtime_speed_leased_tick, runtime_speed_reject,
+    runtime_speed_submit, runtime_speed_tick, Loop,
+};
 use crate::timed;
 use definitions::turns::{Reading, Reply};
 use oracle::life::{Call, Order};
@@ -53,26 +57,29 @@ const READINGS: [Reading; 4] = [
 ];
 
 /// An operation that is timed.
-struct Figure {
-    name: &'static str,
+pub struct Figure {
+    pub name: &'static str,
     /// Whether a lease stands before the first one.
     leased: bool,
     invalid_limit: u16,
     /// The records of operation n, from 0, at this epoch.
     records: fn(u64, u64) -> Vec<Input>,
     /// The operations with these numbers in the Rust.
-    rust: fn(&mut Runtime, Range<u64>),
+    pub rust: fn(&mut Runtime, Range<u64>),
+    /// The operations as laps of a proved loop over a lent runtime.
+    pub lent: Loop,
     /// At the end of a life: the state, the receipts kept, the decision of the newest.
     end: (RuntimeState, usize, Option<Decision>),
 }
 
-const FIGURES: [Figure; 5] = [
+pub const FIGURES: [Figure; 5] = [
     Figure {
         name: "tick, idle",
         leased: false,
         invalid_limit: 32,
         records: |n, _| vec![Input::Call(Call::Tick { now: n })],
         rust: |runtime, numbers| each(runtime, numbers, |r, n| r.tick(n, &mut Prompt)),
+        lent: runtime_speed_tick,
         end: (RuntimeState::SafeIdle, 0, None),
     },
     Figure {
@@ -81,6 +88,7 @@ const FIGURES: [Figure; 5] = [
         invalid_limit: 32,
         records: |_, _| vec![Input::Call(Call::Tick { now: NOW })],
         rust: |runtime, numbers| each(runtime, numbers, |r, _| r.tick(black_box(NOW), &mut Prompt)),
+        lent: runtime_speed_leased_tick,
         end: (RuntimeState::Armed, 1, Some(Decision::Control)),
     },
     Figure {
@@ -89,6 +97,7 @@ const FIGURES: [Figure; 5] = [
         invalid_limit: 32,
         records: acquire_cancel_records,
         rust: |runtime, numbers| each(runtime, numbers, acquire_cancel),
+        lent: runtime_speed_acquire_cancel,
         end: (
             RuntimeState::SafeIdle,
             RECEIPT_CAPACITY,
@@ -101,6 +110,7 @@ const FIGURES: [Figure; 5] = [
         invalid_limit: 32,
         records: |n, epoch| vec![submit(n + 1, epoch), OBSERVED, EXECUTED, OBSERVED, RECORDED],
         rust: |runtime, numbers| submit_each(runtime, numbers, |n| n + 1),
+        lent: runtime_speed_submit,
         end: (
             RuntimeState::Armed,
             RECEIPT_CAPACITY,
@@ -114,6 +124,7 @@ const FIGURES: [Figure; 5] = [
         invalid_limit: u16::MAX,
         records: |_, epoch| vec![submit(0, epoch), RECORDED],
         rust: |runtime, numbers| submit_each(runtime, numbers, |_| 0),
+        lent: runtime_speed_reject,
         end: (
             RuntimeState::Armed,
             RECEIPT_CAPACITY,
@@ -219,7 +230,7 @@ fn started(figure: &Figure) -> Result<Runtime, String> {
 }
 
 /// The Rust before the first operation.
-fn prepared(figure: &Figure) -> Result<Runtime, String> {
+pub fn prepared(figure: &Figure) -> Result<Runtime, String> {
     let mut runtime = started(figure)?;
     if figure.leased {
         runtime

@@ -1,5 +1,6 @@
 //! Times the proved code beside the Rust original, in one run.
 
+mod lent;
 mod lives;
 mod ring;
 
@@ -17,7 +18,9 @@ fn timed<T>(work: impl FnOnce() -> T) -> (f64, T) {
 fn tables() -> Result<(), String> {
     ring::table()?;
     println!();
-    lives::table()
+    lives::table()?;
+    println!();
+    lent::table()
 }
 
 fn main() -> ExitCode {
