@@ -57,7 +57,8 @@ fn no_reply_awaited(core: Core) -> Outcome
     }
 }
 
-fn is_waiting(core: Core) -> bool
+// A reply is awaited.
+pub fn is_waiting(core: Core) -> bool
     ensures { λ r. ⌜ r ≡ waits (core .waiting .awaited) ⌝ }
 {
     let waiting = core.waiting;

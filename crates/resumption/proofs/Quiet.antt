@@ -21,7 +21,7 @@ use Rattle.machine.specs.Axes.{axesFrom}
 use Rattle.machine.specs.Machine.{leaseIn, activeIn}
 use Rattle.machine.proofs.Axes.{axes-step, axes-end}
 use Rattle.machine.proofs.Slots.{held-at}
-use Rattle.resumption.specs.Quiet.{noneDue, unsupervised, isQuiet, quietly}
+use Rattle.resumption.specs.Quiet.{noneDue, unsupervised, onTime, isQuiet, quietly}
 
 -- the loop ---------------------------------------------------------------------------------------------------------------
 
@@ -83,10 +83,10 @@ quiet-supervise now b u n k =
 
 -- a quiet tick trips nothing and hands nothing out: what follows it goes on at once
 pub quiet-tick : (now : ℕ) (b : Book) → isQuiet now b ≡ true → (k : Book → Interaction) → tick now b k ≡ k (quietly now b)
-unfolding isQuiet tick
+unfolding isQuiet onTime tick
 quiet-tick now b q k =
-    let clock = and-both _ _ q in
-    let counters = and-both _ _ (clock .1) in
-    let rest = and-both _ _ (counters .1) in
-    rw (not-true (ltb now (b .lastTick)) (clock .0), not-true (exhausted b) (counters .0))
-    (quiet-supervise now b (not-true (unsupervised now b) (rest .0)) (rest .1) k)
+    let both = and-both _ _ q in
+    let clock = and-both _ _ (both .0) in
+    let rest = and-both _ _ (clock .1) in
+    rw (not-true (ltb now (b .lastTick)) (clock .0), not-true (exhausted b) (rest .0))
+    (quiet-supervise now b (not-true (unsupervised now b) (rest .1)) (both .1) k)

@@ -28,10 +28,12 @@ unfoldable pub unsupervised : ℕ → Book → Bool
 unsupervised now b = isArmed (b .state) && (ltb (b .config .«watchdog_ms») (now - b .lastTick) || isStale now b)
 
 -- 01: "now before last tick", "Epoch, next receipt or next lease at the top": none of these, nor of the two above
+unfoldable pub onTime : ℕ → Book → Bool
+onTime now b = not (ltb now (b .lastTick)) && (not (exhausted b) && not (unsupervised now b))
+
+-- and nothing on an axis is over
 unfoldable pub isQuiet : ℕ → Book → Bool
-isQuiet now b =
-    not (ltb now (b .lastTick))
-    && (not (exhausted b) && (not (unsupervised now b) && noneDue axes now (b .leases) (b .active)))
+isQuiet now b = onTime now b && noneDue axes now (b .leases) (b .active)
 
 -- 01: "Last tick set", and the state as at the end of `tick`
 unfoldable pub quietly : ℕ → Book → Book

@@ -56,7 +56,7 @@ ghost use Rattle.machine.specs.declared.AfterFallback.the-variants.{Trip, Expir
 ghost use Rattle.machine.specs.declared.AfterRecord.the-variants.{Failed};
 ghost use Rattle.machine.specs.Axes.{axesFrom};
 ghost use Rattle.machine.specs.Machine.{leaseIn, activeIn, bookOf, capabilitiesOf, afterTick, tickEnd, afterTrip, afterFallbackOf, afterFallback, afterFellBack, afterRecord, Sound, Gives};
-ghost use Rattle.resumption.specs.Quiet.{noneDue, isQuiet, Ticked};
+ghost use Rattle.resumption.specs.Quiet.{noneDue, onTime, isQuiet, Ticked};
 
 // tick -----------------------------------------------------------------------------------------------------------------
 
@@ -97,7 +97,7 @@ fn tick_end(core: Core) -> Outcome
     after_tick(next)
 }
 
-fn is_lease_over(slot: LeaseSlot, now: u64) -> bool
+pub fn is_lease_over(slot: LeaseSlot, now: u64) -> bool
     ensures { λ r. ⌜ r ≡ holdsOf (leaseIn slot) (λ l. leb (l .«expires_at») now) ⌝ }
 {
     let presence = slot.presence;
@@ -108,7 +108,7 @@ fn is_lease_over(slot: LeaseSlot, now: u64) -> bool
     }
 }
 
-fn is_order_over(slot: ActiveSlot, now: u64) -> bool
+pub fn is_order_over(slot: ActiveSlot, now: u64) -> bool
     ensures { λ r. ⌜ r ≡ holdsOf (activeIn slot) (λ a. leb (a .«expires_at») now) ⌝ }
 {
     let presence = slot.presence;
@@ -225,9 +225,9 @@ fn none_over(leases: [LeaseSlot; 8], orders: [ActiveSlot; 8], now: u64) -> bool
     true
 }
 
-// The opening tick would find nothing to do.
-pub fn is_quiet(core: Core, now: u64) -> bool
-    ensures { λ r. ⌜ ((kept : List Receipt) → r ≡ isQuiet now (bookOf core kept)) ⌝ }
+// Neither the clock nor a counter ends the tick, and no supervision trips.
+pub fn is_on_time(core: Core, now: u64) -> bool
+    ensures { λ r. ⌜ ((kept : List Receipt) → r ≡ onTime now (bookOf core kept)) ⌝ }
 {
     if now < core.last_tick {
         return false;
@@ -244,13 +244,21 @@ pub fn is_quiet(core: Core, now: u64) -> bool
         if gap > limit {
             return false;
         }
-        if is_stale(core, now) {
-            return false;
-        }
+        return !is_stale(core, now);
     }
+    true
+}
+
+// The opening tick would find nothing to do.
+pub fn is_quiet(core: Core, now: u64) -> bool
+    ensures { λ r. ⌜ ((kept : List Receipt) → r ≡ isQuiet now (bookOf core kept)) ⌝ }
+{
     let leases = core.leases;
     let orders = core.active;
-    none_over(leases, orders, now)
+    if is_on_time(core, now) {
+        return none_over(leases, orders, now);
+    }
+    false
 }
 
 // What such a tick leaves, with the call in hand: the last tick set and the state refreshed, the core copied once.
