@@ -14,6 +14,8 @@ use ghost.Atoms.{Atoms}
 use types.Kit.{Given}
 use denote.RattleType.{RattleType}
 use denote.Laws.{Is}
+use denote.Builtin.{u64}
+use mir.Fields.{setV}
 use denote.Array.{Array, array-vals}
 use denote.Struct.Laws as LL
 use denote.Enum.Laws as EL
@@ -44,7 +46,13 @@ use Rattle.steps.proofs.StartStep.Laws as Q′
 use Rattle.steps.specs.declared.Answer.{Answer}
 use Rattle.steps.proofs.Answer as O
 use Rattle.steps.proofs.Answer.Laws as O′
-use Rattle.steps.specs.Runtimes.{after, afterStart}
+use Rattle.steps.specs.declared.Quick.{Quick}
+use Rattle.steps.proofs.Quick as B
+use Rattle.steps.proofs.Quick.Laws as B′
+use Rattle.machine.specs.declared.Mode.{Mode}
+use Rattle.machine.proofs.Mode as M
+use Rattle.machine.proofs.Mode.Laws as M′
+use Rattle.steps.specs.Runtimes.{after, afterStart, sinceTick, quickened}
 use Rattle.receipts.specs.Blank.{blank}
 use Rattle.receipts.proofs.Uses.{same-at}
 use Rattle.runtime.proofs.Item.{map-set, set-is, item-is}
@@ -340,3 +348,64 @@ module _ {M : Type 1} (𝓤 : URA M) (H : Heap 𝓤) (A : Atoms 𝓤) (W : Given
 
   pub start-step-typed : (x : StartStep) (v : Val) → Is Q.the-row x (v ∷ []) → Holds (hasTy Q′.mir v) × WT v
   start-step-typed x v i = LL.lawful Q.the-type Q′.the-laws 𝓤 H A W .typed x _ i .0
+
+-- what a quick tick leaves -----------------------------------------------------------------------------------------------------------
+
+abbrev pub vB : Quick → Val
+vB r = LL.val B.the-type B′.the-laws r
+
+abbrev pub vM : Mode → Val
+vM m = LL.val M.the-type M′.the-laws m
+
+-- the parts of the core, and what stands behind it
+abbrev pub coreV : Runtime → Vals
+coreV h = partsOf (vK (h .core))
+
+abbrev pub behindV : Runtime → Vals
+behindV h = vcons (vL (h .places)) (vcons (vstruct (ofList (slotsV (h .slots)))) vnil)
+
+pub is-parted : (h : Runtime) → vT h ≡ vstruct (vcons (vstruct (vcons (vG (h .starting .stage)) (restS h))) (vcons (vstruct (coreV h)) (behindV h)))
+is-parted h = refl
+
+pub is-quick : (r : Quick) → vB r ≡ vstruct (vcons (vbool (r .done)) (vcons (vO (r .answer)) (vcons (vint w64 (r .«last_tick»)) (vcons (vM (r .mode)) vnil))))
+is-quick r = refl
+
+pub is-quickened : (h : Runtime) (r : Quick) → vT (quickened h r) ≡ vstruct (vcons (vstruct (vcons (vG (h .starting .stage)) (restS h))) (vcons (vstruct (setV (setV (coreV h) 13 (vint w64 (r .«last_tick»))) 14 (vM (r .mode)))) (behindV h)))
+is-quickened h r = refl
+
+pub last-tick-at : fieldAt zero (fieldsOf K′.mir) 13 ≡ some (tyInt w64, 2976)
+last-tick-at = refl
+
+pub mode-at : fieldAt zero (fieldsOf K′.mir) 14 ≡ some (M′.mir, 2984)
+mode-at = refl
+
+pub quick-done-at : fieldAt zero (fieldsOf B′.mir) 0 ≡ some (tyBool, 0)
+quick-done-at = refl
+
+pub quick-answer-at : fieldAt zero (fieldsOf B′.mir) 1 ≡ some (O′.mir, 2)
+quick-answer-at = refl
+
+pub quick-last-tick-at : fieldAt zero (fieldsOf B′.mir) 2 ≡ some (tyInt w64, 8)
+quick-last-tick-at = refl
+
+pub quick-mode-at : fieldAt zero (fieldsOf B′.mir) 3 ≡ some (M′.mir, 16)
+quick-mode-at = refl
+
+module _ (r : Quick) (v : Val) (is : Is B.the-row r (v ∷ [])) where
+  pub quick-answer-is : Is O.the-row (r .answer) (vO (r .answer) ∷ [])
+  quick-answer-is = LL.owed B.the-type B′.the-laws r (v ∷ []) is .1 .0
+
+  pub quick-last-tick-is : Is u64 (r .«last_tick») (vint w64 (r .«last_tick») ∷ [])
+  quick-last-tick-is = LL.owed B.the-type B′.the-laws r (v ∷ []) is .1 .1 .0
+
+  pub quick-mode-is : Is M.the-row (r .mode) (vM (r .mode) ∷ [])
+  quick-mode-is = LL.owed B.the-type B′.the-laws r (v ∷ []) is .1 .1 .1 .0
+
+since-tick-is : (c : Core) (t : ℕ) (m : Mode) → Is K.the-row c (vK c ∷ []) → Is u64 t (vint w64 t ∷ []) → Is M.the-row m (vM m ∷ []) → Is K.the-row (sinceTick c t m) (vK (sinceTick c t m) ∷ [])
+since-tick-is c t m was last-is mode-is = let p = LL.owed K.the-type K′.the-laws c (vK c ∷ []) was in LL.owes K.the-type K′.the-laws (sinceTick c t m) (p .0, (p .1 .0, (p .1 .1 .0, (p .1 .1 .1 .0, (p .1 .1 .1 .1 .0, (p .1 .1 .1 .1 .1 .0, (p .1 .1 .1 .1 .1 .1 .0, (p .1 .1 .1 .1 .1 .1 .1 .0, (p .1 .1 .1 .1 .1 .1 .1 .1 .0, (p .1 .1 .1 .1 .1 .1 .1 .1 .1 .0, (p .1 .1 .1 .1 .1 .1 .1 .1 .1 .1 .0, (p .1 .1 .1 .1 .1 .1 .1 .1 .1 .1 .1 .0, (p .1 .1 .1 .1 .1 .1 .1 .1 .1 .1 .1 .1 .0, (last-is, (mode-is, p .1 .1 .1 .1 .1 .1 .1 .1 .1 .1 .1 .1 .1 .1 .1)))))))))))))))
+
+pub quickened-is : (h : Runtime) → Is T.the-row h (vT h ∷ []) → (r : Quick) (v : Val) → Is B.the-row r (v ∷ []) → Is T.the-row (quickened h r) (vT (quickened h r) ∷ [])
+quickened-is h was r v is = LL.owes T.the-type T′.the-laws (quickened h r) (
+  was-starting h was,
+  (since-tick-is (h .core) (r .«last_tick») (r .mode) (was-core h was) (quick-last-tick-is r v is) (quick-mode-is r v is), LL.owed T.the-type T′.the-laws h (vT h ∷ []) was .1 .1),
+)

@@ -12,3 +12,4 @@ pub mod Walk2
 pub mod Walk3
 pub mod WalkStart
 pub mod WalkNew
+pub mod WalkTick

@@ -4,3 +4,4 @@ pub mod Readings
 pub mod Sizes
 pub mod Standings
 pub mod Starts
+pub mod AtOnce

@@ -28,6 +28,7 @@ use Rattle.machine.specs.declared.Awaited.the-variants as Awaited
 use Rattle.machine.specs.declared.Core.{Core}
 use Rattle.machine.specs.declared.Kind.{Kind}
 use Rattle.machine.specs.declared.Kind.the-variants as Kind
+use Rattle.machine.specs.declared.Mode.{Mode}
 use Rattle.machine.specs.declared.Outcome.{Outcome}
 use Rattle.machine.specs.Machine.{leaseIn, capabilitiesOf, bookOf, phaseOf, itemOf, keptAfter, Sound}
 use Rattle.readings.specs.declared.CapabilitySlot.{CapabilitySlot}
@@ -45,6 +46,7 @@ use Rattle.steps.specs.declared.Answer.{Answer}
 use Rattle.steps.specs.declared.Answer.the-variants as Answer
 use Rattle.steps.specs.declared.Places.{Places}
 use Rattle.steps.specs.declared.Placement.{Placement}
+use Rattle.steps.specs.declared.Quick.{Quick}
 use Rattle.steps.specs.declared.Runtime.{Runtime}
 use Rattle.steps.specs.declared.StartStep.{StartStep}
 use Rattle.steps.specs.declared.Step.{Step}
@@ -191,6 +193,46 @@ pub record Turns (stage : Stage) (core : Core) (places : Places) (i : Input) (s 
   pub inside : s .slot < 65
   pub moves : (rt : Runtime) → rt .starting .stage ≡ stage → rt .core ≡ core → rt .places ≡ places → RuntimeSound rt
       → Moves (after rt s) (s .answer) (react (phaseIn rt) i)
+
+-- a core with another last tick and state
+abbrev pub sinceTick : Core → ℕ → Mode → Core
+sinceTick core t m =
+    record {
+      config = core .config;
+      «boot_id» = core .«boot_id»;
+      capabilities = core .capabilities;
+      count = core .count;
+      resources = core .resources;
+      leases = core .leases;
+      active = core .active;
+      replay = core .replay;
+      «next_receipt» = core .«next_receipt»;
+      «next_lease» = core .«next_lease»;
+      epoch = core .epoch;
+      flags = core .flags;
+      «state_at» = core .«state_at»;
+      «last_tick» = t;
+      mode = m;
+      «invalid_count» = core .«invalid_count»;
+      «estop_seen» = core .«estop_seen»;
+      waiting = core .waiting;
+      pending = core .pending;
+      falling = core .falling;
+      revoked = core .revoked;
+      carrying = core .carrying;
+      receipt = core .receipt;
+      submitted = core .submitted;
+      lease = core .lease;
+    }
+
+-- a runtime with what a quick call stores
+abbrev pub quickened : Runtime → Quick → Runtime
+quickened rt q = record { starting = rt .starting; core = sinceTick (rt .core) (q .«last_tick») (q .mode); places = rt .places; slots = rt .slots }
+
+-- what a quick call promises where it is done: the same as the whole one
+pub record Quickens (stage : Stage) (core : Core) (i : Input) (q : Quick) : Type 0 where
+  pub moves : q .done ≡ true → (rt : Runtime) → rt .starting .stage ≡ stage → rt .core ≡ core → RuntimeSound rt
+      → Moves (quickened rt q) (q .answer) (react (phaseIn rt) i)
 
 -- the start's own replies ----------------------------------------------------------------------------------------------------
 

@@ -2,12 +2,17 @@
 // receipts and the slot that a receipt goes to, so that the receipts themselves are never copied. Promises: with that stored, the runtime stands
 // where the rules' `react` says, and is sound; the readings that need the receipts show what the rules' `read` does. Rests on `calls` and `start`
 // for what happens, on `readings` for the snapshot, and on `receipts` for where a receipt goes.
+use calls::is_waiting;
 use machine::Awaited;
 use machine::Core;
 use machine::Kind;
+use machine::Mode;
 use machine::Outcome;
+use machine::refreshed;
+use model::ActiveSlot;
 use model::Config;
 use model::LeaseRequest;
+use model::LeaseSlot;
 use model::OTHER_REPLY_AWAITED;
 use model::Presence;
 use model::REPLY_AWAITED;
@@ -24,6 +29,9 @@ use receipts::blank_receipt;
 use receipts::is_rejected;
 use receipts::place_of;
 use receipts::push;
+use resumption::is_lease_over;
+use resumption::is_on_time;
+use resumption::is_order_over;
 use start::Listed;
 use start::Stage;
 use start::Start;
@@ -33,12 +41,16 @@ use start::Starting;
 use start::opened;
 use start::start_fell_back;
 ghost use mathlib.Core.Bool.{true, false};
+ghost use mathlib.Core.List.{map};
 ghost use mathlib.Core.Path.{_≡_};
+ghost use Rattle.rules.specs.Admission.{axes};
+ghost use Rattle.machine.specs.Machine.{leaseIn, activeIn};
+ghost use Rattle.resumption.specs.Quiet.{noneDue};
 ghost use Rattle.rules.specs.Protocol.{Calls, Tick, UpdateState, EmergencyStop, PollEstop, RecoverLocal, Acquire, Renew, Cancel, Submit, Replies, Observed as ObservedReply, Executed, FellBack, Recorded, Call, Reply, start as startRule};
 ghost use Rattle.receipts.specs.Rings.{keptAt};
 ghost use Rattle.start.specs.Starts.{isOther, startOf, StartSound};
 ghost use Rattle.orders.specs.Replies.{observationIn};
-ghost use Rattle.steps.specs.Runtimes.{answerOf, isStarted, storesAt, stores as storesOf, Placed, Placing, Settles, Ready, stay, Turns, startAnswerOf, Empties, Begins, startWith, Moves, withStart, StartTurns, Counts, SnapshotRead, heldAt, Finds};
+ghost use Rattle.steps.specs.Runtimes.{answerOf, isStarted, storesAt, stores as storesOf, Placed, Placing, Settles, Ready, stay, Turns, Quickens, startAnswerOf, Empties, Begins, startWith, Moves, withStart, StartTurns, Counts, SnapshotRead, heldAt, Finds};
 
 // All of the ring of receipts but its slots: the index, and the slot numbers at the places of the two circles.
 pub struct Places {
@@ -82,7 +94,15 @@ pub struct Step {
     pub receipt: Receipt,
 }
 
-// The same, with the start: what a fallback's reply leaves to be stored.
+// What is to be stored where a call is done at once: two numbers of the core, and nothing else. `done` says whether it is.
+pub struct Quick {
+    pub done: bool,
+    pub answer: Answer,
+    pub last_tick: u64,
+    pub mode: Mode,
+}
+
+// A step with the start: what a fallback's reply leaves to be stored.
 pub struct StartStep {
     pub answer: Answer,
     pub starting: Starting,
@@ -272,7 +292,47 @@ fn replied(stage: Stage, core: Core, places: Places) -> Step
 
 // calls ----------------------------------------------------------------------------------------------------------------
 
-pub fn tick(stage: Stage, core: Core, places: Places, now: u64) -> Step
+// As in `resumption`, and once more: with one caller it is compiled in line, and no array is copied for it.
+fn none_over(leases: [LeaseSlot; 8], orders: [ActiveSlot; 8], now: u64) -> bool
+    ensures { λ r. ⌜ r ≡ noneDue axes now (map leaseIn leases) (map activeIn orders) ⌝ }
+{
+    let mut i = 0;
+    while i < 8 {
+        let lease = leases[i];
+        if is_lease_over(lease, now) {
+            return false;
+        }
+        let active = orders[i];
+        if is_order_over(active, now) {
+            return false;
+        }
+        i += 1;
+    }
+    true
+}
+
+// A tick that finds nothing to do. The core is only read here, so that nothing of it is copied.
+pub fn quick_tick(stage: Stage, core: Core, now: u64) -> Quick
+    ensures { λ r. ⌜ Quickens stage core (Calls (Tick now)) r ⌝ }
+{
+    let mode = core.mode;
+    let leases = core.leases;
+    let orders = core.active;
+    let state = mode.state;
+    let fresh = Mode {
+        state: refreshed(leases, state),
+    };
+    let free = is_started(stage) & !is_waiting(core);
+    let quiet = is_on_time(core, now) & none_over(leases, orders, now);
+    Quick {
+        done: free & quiet,
+        answer: Answer::Returned,
+        last_tick: now,
+        mode: fresh,
+    }
+}
+
+pub fn whole_tick(stage: Stage, core: Core, places: Places, now: u64) -> Step
     requires { ⌜ Ready stage core places ⌝ }
     ensures { λ r. ⌜ Turns stage core places (Calls (Tick now)) r ⌝ }
 {

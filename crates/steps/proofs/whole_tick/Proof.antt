@@ -1,8 +1,8 @@
 use mathlib.Core.Path.{sym, _∙_}
 use Rattle.steps.proofs.Standings.{is-started, turns-started}
 use borrow.Author.Needs.{needs}
-use Rattle.steps.proofs.tick.Statement.{statement}
-use Rattle.steps.proofs.tick.Tie as tie
+use Rattle.steps.proofs.whole_tick.Statement.{statement}
+use Rattle.steps.proofs.whole_tick.Tie as tie
 
 is-started-requires : tie.Need-is-started-requires
 is-started-requires c κs = search needs
@@ -22,7 +22,7 @@ called-requires c κs = search needs
 returns-2 : tie.Need-returns-2
 returns-2 c = c .called .ensures _ (sym (c .before .before .is-started .ensures) ∙ c .before .if1 .left)
 
-pub tick-spec : {M : Type 1} → statement M
-tick-spec =
+pub whole-tick-spec : {M : Type 1} → statement M
+whole-tick-spec =
     tie.close
     (tie.spec is-started-requires tick-requires settled-requires returns called-requires returns-2)
