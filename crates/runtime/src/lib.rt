@@ -1,6 +1,7 @@
-// The thin outer layer (runtime.rs: the public functions of `Runtime`): each call and reply over a lent `Runtime`, which is taken apart, handed by
-// value to `steps`, and altered in place; the receipts are not copied. No decision is made here. Promises: the runtime stands where the rules'
-// `react` says, the answer is its output, and it stays sound; a reading shows what the rules' `read` does. Rests on `steps` and `readings`.
+// The thin outer layer (runtime.rs: the public functions of `Runtime`): a start over a lent list of records, and each call, reply and reading over
+// a lent `Runtime`, which is taken apart, handed by value to `steps`, and altered in place; the receipts are not copied. Nothing is decided here:
+// whether a tick is done at once is `steps`' answer too. Promises: the runtime stands where the rules' `react` says, the answer is its output, and
+// it stays sound; a reading shows what the rules' `read` does. Rests on `steps` and `readings`.
 use model::Capability;
 use model::Config;
 use model::LeaseRequest;
@@ -21,7 +22,9 @@ ghost use Rattle.rules.specs.Protocol.{ReadState, ReadEpoch, ReadBootId, ReadFl
 ghost use Rattle.orders.specs.Replies.{observationIn};
 ghost use Rattle.steps.specs.Runtimes.{phaseIn, RuntimeSound, Moves, startOn, Shown, LeaseShown, CapabilityShown, ReceiptShown};
 
-// A start. The records are copied one by one; the first 17 tell as much as all of them.
+// start ----------------------------------------------------------------------------------------------------------------
+
+// The records are copied one by one; the first 17 tell as much as all of them.
 pub fn new(config: Config, list: &[Capability], boot_id: u64, time: u64, flags: u32) -> Created
     ensures { λ r. ⌜ Moves (r .runtime) (r .answer) (startRule (startOn config (now (list .entry)) «boot_id» time flags)) ⌝ }
 {
@@ -37,6 +40,7 @@ pub fn new(config: Config, list: &[Capability], boot_id: u64, time: u64, flags: 
 
 // calls ----------------------------------------------------------------------------------------------------------------
 
+// A tick, whatever it finds.
 fn whole_tick(rt: &mut Runtime, time: u64) -> Answer
     requires { ⌜ RuntimeSound (now rt) ⌝ }
     ensures { λ r. ⌜ Moves (now (rt .exit)) r (react (phaseIn (now (rt .entry))) (Calls (Tick time))) ⌝ }

@@ -89,7 +89,7 @@ phaseAt Stage.Started s core kept = phaseOf core kept
 abbrev pub phaseIn : Runtime → Phase
 phaseIn rt = phaseAt (rt .starting .stage) (rt .starting) (rt .core) (receiptsOf (rt .places) (rt .slots))
 
--- the one condition on a runtime, which every call and reply keeps
+-- the one condition on a runtime: what `new` sets up, and every call and reply keeps
 pub record RuntimeSound (rt : Runtime) : Type 0 where
   pub starting : StartSound (rt .starting)
   pub core : rt .starting .stage ≡ Stage.Started → Sound (rt .core)
