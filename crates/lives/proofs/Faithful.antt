@@ -12,25 +12,20 @@ use Rattle.readings.proofs.Books.{book-at}
 use Rattle.start.specs.declared.Stage.the-variants.{Started}
 use Rattle.start.specs.declared.StartOutcome.{StartOutcome}
 use Rattle.start.specs.Starts.{startOf, startOutputAt, startReactionOf, StartSound, StartGives}
-use Rattle.lives.specs.Runs.{Standing, Begun, Running, phaseIn, Leaves, goes-on, ends, Step, called, replied, shown, starting, Run, here, then, CodeLife, outputsOf, lifeOf}
+use Rattle.lives.specs.Runs.{Standing, Begun, Running, phaseIn, Leaves, goes-on, ends, Step, called, replied, shown, starting, CodeLife, outputsOf, lifeOf}
+use Rattle.lives.proofs.Follows.{Meets, follows}
 
 -- what the promises ask for
 abbrev Fit : Standing → Type 0
 Fit (Begun s) = StartSound s × (s .stage ≢ Started)
 Fit (Running core kept) = Sound core
 
--- an output and a standing are those of a reaction
-record Meets (r : Reaction) (out : Output) (t : Standing) : Type 0 where
-  output : out ≡ r .output
-  phase : phaseIn t ≡ r .phase
-  fit : Fit t
-
 acts : {o : Outcome} {x : List Receipt → Reaction} (kept : List Receipt) → Gives o x
-    → Meets (x kept) (outputAt (o .kind) (o .core)) (Running (o .core) (keptAfter (o .kind) (o .core) kept))
+    → Meets phaseIn Fit (x kept) (outputAt (o .kind) (o .core)) (Running (o .core) (keptAfter (o .kind) (o .core) kept))
 unfolding phaseIn reactionOf
 acts kept g = record { output = ap (λ r. r .output) (g .reaction kept); phase = ap (λ r. r .phase) (g .reaction kept); fit = g .sound }
 
-leaves : {o : StartOutcome} {t : Standing} {r : Reaction} → StartGives o r → Leaves o t → Meets r (startOutputAt (o .kind) (o .starting)) t
+leaves : {o : StartOutcome} {t : Standing} {r : Reaction} → StartGives o r → Leaves o t → Meets phaseIn Fit r (startOutputAt (o .kind) (o .starting)) t
 unfolding phaseIn startReactionOf
 leaves g (goes-on n) = record { output = ap (λ r. r .output) (g .reaction); phase = ap (λ r. r .phase) (g .reaction); fit = (g .sound, n) }
 leaves g (ends e opened) =
@@ -39,42 +34,26 @@ leaves g (ends e opened) =
 
 -- a core is read by its book, also while a reply is awaited
 shows : (core : Core) (kept : List Receipt) (q : Reading) (v : Value) → Sound core → v ≡ read q (bookOf core kept)
-    → Meets (react (phaseOf core kept) (Reads q)) (Shows v) (Running core kept)
+    → Meets phaseIn Fit (react (phaseOf core kept) (Reads q)) (Shows v) (Running core kept)
 unfolding phaseIn react apply effect shownRule phaseOf
 shows core kept q v h e = record { output = rw (e, book-at (core .waiting .awaited) core (bookOf core kept)); phase = refl; fit = h }
 
-step : {s t : Standing} {i : Input} {out : Output} → Fit s → Step s i out t → Meets (react (phaseIn s) i) out t
+step : {s t : Standing} {i : Input} {out : Output} → Fit s → Step s i out t → Meets phaseIn Fit (react (phaseIn s) i) out t
 unfolding phaseIn
 step h (called {kept = kept} o p) = acts kept (p h)
 step h (replied {kept = kept} o p) = acts kept (p h)
 step h (shown {core = core} {kept = kept} {q = q} {v = v} e) = shows core kept q v h (e h)
 step h (starting o p l) = leaves (p h) l
 
--- a whole run
-record Follows (p : Phase) (is : List Input) (outs : List Output) (t : Standing) : Type 0 where
-  outputs : outs ≡ outputsFrom p is
-  phase : phaseIn t ≡ phaseFrom p is
-
-follows : {s t : Standing} {is : List Input} {outs : List Output} → Fit s → Run s is outs t → Follows (phaseIn s) is outs t
-unfolding outputsFrom phaseFrom
-follows h here = record { outputs = refl; phase = refl }
-follows h (then {is = is} one more) =
-    let m = step h one in
-    let k = follows (m .fit) more in
-    record {
-      outputs = ap₂ (λ x y. x ∷ y) (m .output) (k .outputs ∙ ap (λ p. outputsFrom p is) (m .phase));
-      phase = k .phase ∙ ap (λ p. phaseFrom p is) (m .phase);
-    }
-
-begins : (c : CodeLife) → Meets (startRule (startOf (c .start))) (startOutputAt (c .begun .kind) (c .begun .starting)) (c .first)
+begins : (c : CodeLife) → Meets phaseIn Fit (startRule (startOf (c .start))) (startOutputAt (c .begun .kind) (c .begun .starting)) (c .first)
 begins c = leaves (c .promised) (c .left)
 
 pub faithful : (c : CodeLife) → outputsOf c ≡ outputs (lifeOf c)
 unfolding outputsOf outputs lifeOf
 faithful c =
     let m = begins c in
-    ap₂ (λ x y. x ∷ y) (m .output) (follows (m .fit) (c .run) .outputs ∙ ap (λ p. outputsFrom p (c .inputs)) (m .phase))
+    ap₂ (λ x y. x ∷ y) (m .output) (follows phaseIn Fit (λ s t i out. step) (m .fit) (c .run) .outputs ∙ ap (λ p. outputsFrom p (c .inputs)) (m .phase))
 
 pub same-end : (c : CodeLife) → phaseIn (c .last) ≡ phaseAfter (lifeOf c)
 unfolding phaseAfter lifeOf
-same-end c = let m = begins c in follows (m .fit) (c .run) .phase ∙ ap (λ p. phaseFrom p (c .inputs)) (m .phase)
+same-end c = let m = begins c in follows phaseIn Fit (λ s t i out. step) (m .fit) (c .run) .phase ∙ ap (λ p. phaseFrom p (c .inputs)) (m .phase)

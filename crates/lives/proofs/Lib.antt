@@ -1,3 +1,5 @@
+pub mod Follows
 pub mod Faithful
 pub mod Logs
 pub mod Theorem
+pub mod Lent

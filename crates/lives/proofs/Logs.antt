@@ -12,7 +12,7 @@ unfolding logAfter logOf outputsFrom phaseAt
 log-aux s [] h = refl
 log-aux s (i ∷ is) h = log-aux s is (i ∷ h)
 
-log-forward : (l : Life) → logFrom (l .inputs) (outputs l) ≡ logOf (l .start) (reverse (l .inputs))
+pub log-forward : (l : Life) → logFrom (l .inputs) (outputs l) ≡ logOf (l .start) (reverse (l .inputs))
 unfolding logFrom outputs logOf phaseAt
 log-forward l = log-aux (l .start) (l .inputs) []
 

@@ -57,11 +57,11 @@ pub data Step : Standing → Input → Output → Standing → Type 0 where
 
 -- a life ---------------------------------------------------------------------------------------------------------------
 
--- steps in order, each from where the one before left the code
-pub data Run : Standing → List Input → List Output → Standing → Type 0 where
-  here : {s : Standing} → Run s [] [] s
-  then : {s t u : Standing} {i : Input} {out : Output} {is : List Input} {outs : List Output}
-      → Step s i out t → Run t is outs u → Run s (i ∷ is) (out ∷ outs) u
+-- steps in order, each from where the one before left the code, whatever a step is
+pub data Run {S : Type 0} (Takes : S → Input → Output → S → Type 0) : S → List Input → List Output → S → Type 0 where
+  here : {s : S} → Run Takes s [] [] s
+  then : {s t u : S} {i : Input} {out : Output} {is : List Input} {outs : List Output}
+      → Takes s i out t → Run Takes t is outs u → Run Takes s (i ∷ is) (out ∷ outs) u
 
 -- One start and a run (00: "each on the state the one before left"). A life that is cut is one whose run ends while a reply is awaited;
 -- nothing of where it stood goes into the next life.
@@ -75,7 +75,7 @@ pub record CodeLife : Type 0 where
   pub inputs : List Input
   pub later : List Output
   pub last : Standing
-  pub run : Run first inputs later last
+  pub run : Run Step first inputs later last
 
 -- all that came out: the start's own output, then one for each input
 unfoldable pub outputsOf : CodeLife → List Output
