@@ -9,7 +9,8 @@ with them and the parameters, and stores the core, the places and one slot; in
 the variant `start` it takes and stores the whole start, not its stage alone.
 A reading copies the core or the places out, or both, and calls a function of
 `readings` or `steps`; in the variant `slot` that function tells a slot, and a
-second one is called with the slot's number and its receipt.
+second one is called with the slot's number and its receipt. A call of QUICK
+asks first whether it is done at once, and is else passed on.
 
 proofs/Walk0 to Walk3, WalkStart and those of LOOKS walk a shape for a number
 of parameters, over types that are variables: with the runtime's own types,
@@ -84,9 +85,11 @@ CALLS = {
 }
 # Those of the variant `start`.
 STARTS = {'fell_back'}
-# The function that has the shape of a call, where the call goes straight on
-# first if it finds nothing to do. Such a call is proved by hand.
-WHOLE = {'tick': 'whole_tick'}
+# Those that may be done at once, if a function that only reads says so
+# (quick_NAME of `steps`). Else the runtime is passed on to whole_NAME, which
+# has the shape of the others.
+QUICK = {'tick', 'poll_estop'}
+QUICK_LOCALS = ['STAGE', 'CORE', 'QUICK', 'DONE', 'AGAIN']
 
 # The looks: the number of parameters and the parts that are copied.
 LOOKS = {
@@ -155,7 +158,7 @@ def spots(name, local, count):
     """
     digits = ''.join('₀₁₂₃₄₅₆₇₈₉'[int(digit)] for digit in str(local))
     place = 2 * (count - 1 - local)
-    behind = {f'{name}+{ahead}': ahead + place for ahead in (0, 3, 4, 5)}
+    behind = {f'{name}+{ahead}': ahead + place for ahead in (0, 1, 3, 4, 5)}
     return {name: local, f'l{name}': f'l{digits}', **behind}
 
 
@@ -365,6 +368,40 @@ def call(fn, params, says):
     return proof(fn, [fn], 'KL', params, uses, names, lists)
 
 
+def quick_shape(params):
+    """The walk of a call with so many parameters that may be done at once."""
+    first = 2 + params
+    count = first + len(QUICK_LOCALS)
+    every = [spots('L', local, count) for local in range(count)]
+    numbers = {name: first + i for i, name in enumerate(QUICK_LOCALS)}
+    names = {'M': params, 'PARAMS': params + 1}
+    names.update({f'END+{i}': 2 * count + i for i in range(3)})
+    for name, local in {'RESULT': 0, 'RUNTIME': 1, **numbers}.items():
+        names.update(spots(name, local, count))
+    return fill('quick', names, {
+        'params': [{'I': i, **spots('P', 2 + i, count)}
+                   for i in range(params)],
+        'locals': every, 'localsBack': every[::-1],
+        # All but the last are given a value before the call is done.
+        'madeBack': every[-2::-1],
+    })
+
+
+def quick(fn, params, says):
+    """The proof of a call that may be done at once."""
+    entries, uses = parameters(params)
+    names = {
+        'FN': fn, 'NAME': fn.replace('_', '-'), 'PARAMS': len(entries) + 1,
+        'ARGS': ' '.join(entry['X'] for entry in entries),
+        'CLOSE': ')' * len(entries), 'SHAPE': f'Quick{len(entries)}',
+        'SAYS': says.removeprefix('Calls (').removesuffix(')'),
+    }
+    return fill('quickly', names, {
+        'uses': [{'USE': line} for line in dict.fromkeys(uses)],
+        'params': entries, 'paramsBack': entries[::-1],
+    })
+
+
 def reading(fn, look, params, result, says, shown):
     """The proof of a reading."""
     slot, good = look == SLOT, 'good' in shown
@@ -393,9 +430,13 @@ def texts():
     for name, (params, parts) in LOOKS.items():
         own = SLOT_LOCALS if name == SLOT else []
         yield f'{name}.antt', shape('look', params, parts, own)
-    for name, given in CALLS.items():
-        fn = WHOLE.get(name, name)
-        yield f'{fn}/Proof.antt', call(fn, *given)
+    for params in {len(CALLS[fn][0]) for fn in QUICK}:
+        yield f'Quick{params}.antt', quick_shape(params)
+    for fn, given in CALLS.items():
+        whole = f'whole_{fn}' if fn in QUICK else fn
+        yield f'{whole}/Proof.antt', call(whole, *given)
+    for fn in QUICK:
+        yield f'{fn}/Proof.antt', quick(fn, *CALLS[fn])
     for fn, given in READINGS.items():
         yield f'{fn}/Proof.antt', reading(fn, *given)
 

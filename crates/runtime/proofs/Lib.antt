@@ -12,4 +12,5 @@ pub mod Walk2
 pub mod Walk3
 pub mod WalkStart
 pub mod WalkNew
-pub mod WalkTick
+pub mod Quick1
+pub mod Quick2

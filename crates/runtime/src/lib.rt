@@ -99,18 +99,35 @@ pub fn emergency_stop(rt: &mut Runtime, time: u64) -> Answer
     step.answer
 }
 
-pub fn poll_estop(rt: &mut Runtime, raised: u32, time: u64) -> Answer
+// A poll, whatever it sees.
+fn whole_poll_estop(rt: &mut Runtime, raised: u32, time: u64) -> Answer
     requires { ⌜ RuntimeSound (now rt) ⌝ }
     ensures { λ r. ⌜ Moves (now (rt .exit)) r (react (phaseIn (now (rt .entry))) (Calls (PollEstop raised time))) ⌝ }
 {
     let stage = rt.starting.stage;
     let core = rt.core;
     let places = rt.places;
-    let step = steps::poll_estop(stage, core, places, raised, time);
+    let step = steps::whole_poll_estop(stage, core, places, raised, time);
     rt.core = step.core;
     rt.places = step.places;
     rt.slots[step.slot] = step.receipt;
     step.answer
+}
+
+// A poll that sees no raise alters nothing.
+pub fn poll_estop(rt: &mut Runtime, raised: u32, time: u64) -> Answer
+    requires { ⌜ RuntimeSound (now rt) ⌝ }
+    ensures { λ r. ⌜ Moves (now (rt .exit)) r (react (phaseIn (now (rt .entry))) (Calls (PollEstop raised time))) ⌝ }
+{
+    let stage = rt.starting.stage;
+    let core = rt.core;
+    let quick = steps::quick_poll_estop(stage, core, raised, time);
+    if quick.done {
+        rt.core.last_tick = quick.last_tick;
+        rt.core.mode = quick.mode;
+        return quick.answer;
+    }
+    whole_poll_estop(rt, raised, time)
 }
 
 pub fn recover_local(rt: &mut Runtime, time: u64) -> Answer

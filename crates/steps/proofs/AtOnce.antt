@@ -2,6 +2,7 @@
 use Prim.Native.Nat.{ℕ}
 use mathlib.Core.Bool.{Bool, true, false, not, _&&_, false≢true}
 use borrow.Author.Tests.{not-true}
+use lib.Dec.{eqb}
 use mathlib.Core.List.{List, map}
 use mathlib.Core.Path.{_≡_, refl, sym, ap, _∙_, subst}
 use Rattle.model.specs.declared.Receipt.{Receipt}
@@ -11,8 +12,8 @@ use Rattle.model.proofs.Tests.{and-both}
 use Rattle.rules.specs.Admission.{axes, isSome}
 use Rattle.rules.specs.Book.{Book, withLastTick, withState}
 use Rattle.rules.specs.Interaction.{Done, Returned}
-use Rattle.rules.specs.Protocol.{Input, Calls, Tick, Phase, Idle, Reaction, Answers, begin, proceed, called, effect, apply, react}
-use Rattle.rules.specs.Rules.{refreshState, refreshed}
+use Rattle.rules.specs.Protocol.{Input, Calls, Tick, PollEstop, Phase, Idle, Reaction, Answers, begin, proceed, called, effect, apply, react}
+use Rattle.rules.specs.Rules.{refreshState, refreshed, pollEstop}
 use Rattle.machine.specs.declared.Awaited.{Awaited}
 use Rattle.machine.specs.declared.Awaited.the-variants as Awaited
 use Rattle.machine.specs.declared.Core.{Core}
@@ -64,6 +65,19 @@ module _ (rt : Runtime) (d : rt .starting .stage ≡ Stage.Started) (h : Runtime
     sound = record { starting = h .starting; core = h .core; kept = h .kept };
   }
 
+-- a call that reads as much of the core, and is done at once where `rest` holds too
+quickens : (stage : Stage) (core : Core) (i : Input) (answer : Answer) (t : ℕ) (m : Mode) {started waiting rest : Bool} → started ≡ isStarted stage → waiting ≡ waits (core .waiting .awaited)
+    → (rest ≡ true → (s : Starting) (kept : List Receipt) → react (Idle (bookOf core kept)) i ≡ record { output = outputAt answer s (sinceTick core t m); phase = Idle (bookOf (sinceTick core t m) kept) })
+    → Quickens stage core i (record { done = (started && not waiting) && rest; answer = answer; «last_tick» = t; mode = m })
+quickens stage core i answer t m {started} {waiting} {rest} s w e = record {
+  moves = λ done rt a b h.
+      let both = and-both (started && not waiting) rest done in
+      let first = and-both started (not waiting) (both .0) in
+      moves-at-once rt (a ∙ is-started stage (sym s ∙ first .0)) h (ap (λ (c : Core). waits (c .waiting .awaited)) b ∙ sym w ∙ not-true waiting (first .1)) i (record { done = true; answer = answer; «last_tick» = t; mode = m })
+      (subst (λ (c : Core). (kept : List Receipt) → react (Idle (bookOf c kept)) i
+      ≡ record { output = outputAt answer (rt .starting) (sinceTick c t m); phase = Idle (bookOf (sinceTick c t m) kept) }) (sym b) (e (both .1) (rt .starting)));
+}
+
 -- a tick that finds nothing to do
 pub quiet-at-once : (core : Core) (now : ℕ) (m : Mode) (s : Starting) → m .state ≡ refreshed (any isSome (map leaseIn (core .leases))) (core .mode .state) → (kept : List Receipt)
     → isQuiet now (bookOf core kept) ≡ true
@@ -78,12 +92,18 @@ pub quickens-tick : (stage : Stage) (core : Core) (now : ℕ) (m : Mode) → m .
     → idle ≡ noneDue axes now (map leaseIn (core .leases)) (map activeIn (core .active))
     → Quickens stage core (Calls (Tick now)) (record { done = (started && not waiting) && (due && idle); answer = Answer.Returned; «last_tick» = now; mode = m })
 unfolding isQuiet bookOf
-quickens-tick stage core now m e {started} {waiting} {due} {idle} s w t n = record {
-  moves = λ done rt a b h.
-      let both = and-both (started && not waiting) (due && idle) done in
-      let first = and-both started (not waiting) (both .0) in
-      moves-at-once rt (a ∙ is-started stage (sym s ∙ first .0)) h (ap (λ (c : Core). waits (c .waiting .awaited)) b ∙ sym w ∙ not-true waiting (first .1)) (Calls (Tick now)) (record { done = true; answer = Answer.Returned; «last_tick» = now; mode = m })
-      (subst (λ (c : Core). (kept : List Receipt) → react (Idle (bookOf c kept)) (Calls (Tick now))
-      ≡ record { output = outputAt Answer.Returned (rt .starting) (sinceTick c now m); phase = Idle (bookOf (sinceTick c now m) kept) }) (sym b)
-      (λ kept. quiet-at-once core now m (rt .starting) e kept (rw (sym (t kept), sym n) (both .1))));
-}
+quickens-tick stage core now m e s w t n =
+    quickens stage core (Calls (Tick now)) Answer.Returned now m s w (λ quiet start kept. quiet-at-once core now m start e kept (rw (sym (t kept), sym n) quiet))
+
+-- a poll that sees no raise
+poll-at-once : (core : Core) (raised now : ℕ) (s : Starting) (kept : List Receipt) → eqb raised (core .«estop_seen») ≡ true
+    → react (Idle (bookOf core kept)) (Calls (PollEstop raised now))
+    ≡ record { output = outputAt (Answer.Polled false) s (sinceTick core (core .«last_tick») (core .mode)); phase = Idle (bookOf (sinceTick core (core .«last_tick») (core .mode)) kept) }
+unfolding react effect apply called begin proceed pollEstop outputAt bookOf
+poll-at-once core raised now s kept e = rw e
+
+pub quickens-poll : (stage : Stage) (core : Core) (raised now : ℕ) {started waiting : Bool} → started ≡ isStarted stage → waiting ≡ waits (core .waiting .awaited)
+    → Quickens stage core (Calls (PollEstop raised now))
+    (record { done = (started && not waiting) && eqb raised (core .«estop_seen»); answer = Answer.Polled false; «last_tick» = core .«last_tick»; mode = core .mode })
+quickens-poll stage core raised now s w =
+    quickens stage core (Calls (PollEstop raised now)) (Answer.Polled false) (core .«last_tick») (core .mode) s w (λ same start kept. poll-at-once core raised now start kept same)

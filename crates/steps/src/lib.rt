@@ -332,6 +332,20 @@ pub fn quick_tick(stage: Stage, core: Core, now: u64) -> Quick
     }
 }
 
+// A poll that sees no raise.
+pub fn quick_poll_estop(stage: Stage, core: Core, raised: u32, now: u64) -> Quick
+    ensures { λ r. ⌜ Quickens stage core (Calls (PollEstop raised now)) r ⌝ }
+{
+    let mode = core.mode;
+    let free = is_started(stage) & !is_waiting(core);
+    Quick {
+        done: free & (raised == core.estop_seen),
+        answer: Answer::Polled(false),
+        last_tick: core.last_tick,
+        mode: mode,
+    }
+}
+
 pub fn whole_tick(stage: Stage, core: Core, places: Places, now: u64) -> Step
     requires { ⌜ Ready stage core places ⌝ }
     ensures { λ r. ⌜ Turns stage core places (Calls (Tick now)) r ⌝ }
@@ -362,7 +376,7 @@ pub fn emergency_stop(stage: Stage, core: Core, places: Places, now: u64) -> Ste
     called(stage, core, places)
 }
 
-pub fn poll_estop(stage: Stage, core: Core, places: Places, raised: u32, now: u64) -> Step
+pub fn whole_poll_estop(stage: Stage, core: Core, places: Places, raised: u32, now: u64) -> Step
     requires { ⌜ Ready stage core places ⌝ }
     ensures { λ r. ⌜ Turns stage core places (Calls (PollEstop raised now)) r ⌝ }
 {

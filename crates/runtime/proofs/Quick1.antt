@@ -1,4 +1,4 @@
--- A walk of the MIR of `tick`, whatever the types are: the borrow is opened, the stage and the core are copied out of it, and what a quick tick would leave is asked for. Where it is done, two parts of the core are stored in place and the borrow is closed; else the borrow is closed as it was, and passed on to the whole call. Types are variables, so that no large one is written out.
+-- A walk of the MIR of a call with 1 parameters that may be done at once, whatever the types are: the borrow is opened, the stage and the core are copied out of it, and what a quick call would leave is asked for. Where it is done, two parts of the core are stored in place and the borrow is closed; else the borrow is closed as it was, and passed on to the whole call. Types are variables, so that no large one is written out. Written by tools/outer/walks.py.
 -- Assumes `Given`.
 use mathlib.Core.Path.{_≡_, refl, sym, _∙_, ap}
 use mathlib.Core.Bool.{Bool}
@@ -32,8 +32,7 @@ use denote.Triple.Statement.{Contract}
 use denote.Triple.Call.{calls-at}
 use Rattle.runtime.proofs.RawPart.{whole-raw}
 
--- T is the runtime, S its start, G the stage, K the core, Q what a quick tick leaves, N the mode in it, O the answer, P the time
-module _ (νT νS νK νQ : Sym) (τsT τsS τsK τsQ : Tys) (τ₁ τG τN τO τP : Ty) (gQuick gWhole : Name) where
+module _ (νT νS νK νQ : Sym) (τsT τsS τsK τsQ : Tys) (τ₁ τG τN τO : Ty) (τP0 : Ty) (gQuick gWhole : Name) where
   abbrev τT : Ty
   τT = tyStruct νT τsT
 
@@ -54,7 +53,7 @@ module _ (νT νS νK νQ : Sym) (τsT τsS τsK τsQ : Tys) (τ₁ τG τN τO 
     lifetimes = 1;
     outlives = [];
     params = 2;
-    locals = local τO valueLocal ∷ local (tyRef (named 0) mut τ₁) valueLocal ∷ local τP valueLocal ∷ local τG valueLocal ∷ local τK valueLocal ∷ local τQ valueLocal ∷ local tyBool valueLocal ∷ local (tyRef erased mut τ₁) valueLocal ∷ [];
+    locals = local τO valueLocal ∷ local (tyRef (named 0) mut τ₁) valueLocal ∷ local τP0 valueLocal ∷ local τG valueLocal ∷ local τK valueLocal ∷ local τQ valueLocal ∷ local tyBool valueLocal ∷ local (tyRef erased mut τ₁) valueLocal ∷ [];
     body = seq (assign (place 3 []) (rvOpd (copy (place 1 (deref τT ∷ field 0 ∷ field 0 ∷ []))))) (seq (assign (place 4 []) (rvOpd (copy (place 1 (deref τT ∷ field 1 ∷ [])))))
         (seq (call gQuick (copy (place 3 []) ∷ copy (place 4 []) ∷ copy (place 2 []) ∷ []) (place 5 [])) (seq (assign (place 6 []) (rvOpd (copy (place 5 (field 0 ∷ [])))))
         (seq (cond (copy (place 6 [])) (seq (assign (place 1 (deref τT ∷ field 1 ∷ field 13 ∷ [])) (rvOpd (copy (place 5 (field 2 ∷ []))))) (seq (assign (place 1 (deref τT ∷ field 1 ∷ field 14 ∷ [])) (rvOpd (copy (place 5 (field 3 ∷ [])))))
@@ -78,26 +77,26 @@ module _ (νT νS νK νQ : Sym) (τsT τsS τsK τsQ : Tys) (τ₁ τG τN τO 
       (qO : (r : Q .Denot) (v : Val) → Is Q r (v ∷ []) → Is O (ofO r) (vO (ofO r) ∷ [])) (qT : (r : Q .Denot) (v : Val) → Is Q r (v ∷ []) → Holds (hasTy (tyInt w64) (vint w64 (lastOf r))) × WT (vint w64 (lastOf r)))
       (qN : (r : Q .Denot) (v : Val) → Is Q r (v ∷ []) → Is N (ofN r) (vN (ofN r) ∷ []))
       (qA : (h : T .Denot) → Is T h (vT h ∷ []) → (r : Q .Denot) (v : Val) → Is Q r (v ∷ []) → Is T (after h r) (vT (after h r) ∷ []))
-      (κ : Lft) (q : Share) (b o : ℕ) (γ : GName) (h : T .Denot) (vP : Val) (yP : Holds (hasTy τP vP) × WT vP) (Said : Q .Denot → Type 0) (Left : O .Denot → SProp 𝓤) (Post : Val → SProp 𝓤)
+      (κ : Lft) (q : Share) (b o : ℕ) (γ : GName) (h : T .Denot) (vP0 : Val) (yP0 : Holds (hasTy τP0 vP0) × WT vP0) (Said : Q .Denot → Type 0) (Left : O .Denot → SProp 𝓤) (Post : Val → SProp 𝓤)
       (exits : (r : Q .Denot) → Said r → Holds (doneOf r) → Is O (ofO r) (vO (ofO r) ∷ []) → ent 𝓤 (⋆ 𝓤 H A (‵ (fobs γ (T .coded .code (after h r))) ∷ ‵ (fbor κ (Body (mem T) b o γ)) ∷ ‵ (flft κ q) ∷ [])) (Post (vO (ofO r))))
       (passes : (r : O .Denot) (v : Val) → ent 𝓤 (⋆ 𝓤 H A (‵ (O .own r (v ∷ [])) ∷ (‵ (flft κ q) ⊛ ‵ ftrue) ∷ raw (Left r) ∷ [])) (Post v))
       (Back₁ : Val → SProp 𝓤) (Got : Q .Denot → SProp 𝓤) (back₁ : (v : Val) → ent 𝓤 (Back₁ v) (mean 𝓤 H A (later (some′ (λ (r : Q .Denot). (‵ ftrue ⊛ ‵ (Q .own r (v ∷ []))) ⊛ raw (Got r)))))) (got : (r : Q .Denot) → ent 𝓤 (Got r) (fact 𝓤 (Said r)))
       (Back₂ : Val → SProp 𝓤) (back₂ : (v : Val) → ent 𝓤 (Back₂ v) (mean 𝓤 H A (later (some′ (λ (r : O .Denot). ((‵ (flft κ q) ⊛ ‵ ftrue) ⊛ ‵ (O .own r (v ∷ []))) ⊛ raw (Left r))))))
-      (C : Calls 𝓤 H) (Λ : Loops 𝓤 H) (fm : FmC 𝓤 H (W .laws) C) (known₁ : Is T h (vT h ∷ []) → ent 𝓤 (emp 𝓤) (C gQuick (vG (stage h) ∷ vstruct (core h) ∷ vP ∷ []) Back₁))
-      (known₂ : ent 𝓤 (⋆ 𝓤 H A (‵ (fobs γ (T .coded .code h)) ∷ ‵ (fbor κ (Body (mem T) b o γ)) ∷ ‵ (flft κ q) ∷ [])) (C gWhole (vptr b o ∷ vP ∷ []) Back₂)) where
+      (C : Calls 𝓤 H) (Λ : Loops 𝓤 H) (fm : FmC 𝓤 H (W .laws) C) (known₁ : Is T h (vT h ∷ []) → ent 𝓤 (emp 𝓤) (C gQuick (vG (stage h) ∷ vstruct (core h) ∷ vP0 ∷ []) Back₁))
+      (known₂ : ent 𝓤 (⋆ 𝓤 H A (‵ (fobs γ (T .coded .code h)) ∷ ‵ (fbor κ (Body (mem T) b o γ)) ∷ ‵ (flft κ q) ∷ [])) (C gWhole (vptr b o ∷ vP0 ∷ []) Back₂)) where
     abbrev Begins : List (Item 𝓤)
     Begins = ‵ (fobs γ (T .coded .code h)) ∷ ‵ (fbor κ (Body (mem T) b o γ)) ∷ ‵ (flft κ q) ∷ []
 
     abbrev Quick : Contract 𝓤
-    Quick = record { Ghost = Is T h (vT h ∷ []); args = λ _. vG (stage h) ∷ vstruct (core h) ∷ vP ∷ []; pre = λ _. emp 𝓤; post = λ _. Back₁ }
+    Quick = record { Ghost = Is T h (vT h ∷ []); args = λ _. vG (stage h) ∷ vstruct (core h) ∷ vP0 ∷ []; pre = λ _. emp 𝓤; post = λ _. Back₁ }
 
     abbrev Whole : Contract 𝓤
-    Whole = record { Ghost = Unit {0}; args = λ _. vptr b o ∷ vP ∷ []; pre = λ _. ⋆ 𝓤 H A Begins; post = λ _. Back₂ }
+    Whole = record { Ghost = Unit {0}; args = λ _. vptr b o ∷ vP0 ∷ []; pre = λ _. ⋆ 𝓤 H A Begins; post = λ _. Back₂ }
 
-    pub walk : ent 𝓤 (⋆ 𝓤 H A Begins) (WpFn 𝓤 H C Λ fn (vptr b o ∷ vP ∷ []) Post)
+    pub walk : ent 𝓤 (⋆ 𝓤 H A Begins) (WpFn 𝓤 H C Λ fn (vptr b o ∷ vP0 ∷ []) Post)
     walk =
-        qed W Begins ∵ enter ! C Λ fn (vptr b o ∷ vP ∷ []) _ $
-        alloc1 ! (λ l₀. alloc1 ! (λ l₁. alloc1 ! (λ l₂. alloc1 ! (λ l₃. alloc1 ! (λ l₄. alloc1 ! (λ l₅. alloc1 ! (λ l₆. alloc1 ! (λ l₇. alloc0 ! $ params1 ! $ pass1 ! (init ! 12 refl (tt, tt)) $ pass1 ! (init ! 10 refl yP) $ pass0 ! $
+        qed W Begins ∵ enter ! C Λ fn (vptr b o ∷ vP0 ∷ []) _ $
+        alloc1 ! (λ l₀. alloc1 ! (λ l₁. alloc1 ! (λ l₂. alloc1 ! (λ l₃. alloc1 ! (λ l₄. alloc1 ! (λ l₅. alloc1 ! (λ l₆. alloc1 ! (λ l₇. alloc0 ! $ params1 ! $ pass1 ! (init ! 12 refl (tt, tt)) $ pass1 ! (init ! 10 refl yP0) $ pass0 ! $
         move ! (16 ∷ 17 ∷ 18 ∷ []) $ opens ! tt T {h = h} b o (λ vs. spelt ! T (Is T) (shows 𝓤 H A T) (λ x. vT x ∷ []) tT fullShare h vs b o $
         move ! (1 ∷ []) $ peeks ! T (Is T) (shows 𝓤 H A T) h (vT h ∷ []) (λ was. drop ! $
         rewrite ! 0 (λ (τs : List Ty). ‵ (cellAt fullShare τs (vT h ∷ []) b o)) T-mir refl $ rewrite ! 0 (λ (v : Val). ‵ (fat fullShare (rawTy τT) b o v)) (isT h) refl $
@@ -118,10 +117,9 @@ module _ (νT νS νK νQ : Sym) (τsT τsS τsK τsQ : Tys) (τ₁ τG τN τO 
         rewrite ! 0 (λ (u : Val). ‵ (fat fullShare (rawTy τT) b o u)) (sym (is-after h r)) refl $ rewrite ! 0 (λ (τs : List Ty). ‵ (cellAt fullShare τs (vT (after h r) ∷ []) b o)) (sym T-mir) refl $
         owned ! T (Is T) mT (after h r) _ (qA h was r v is) $ move ! (1 ∷ 0 ∷ []) $ closes ! tt T (after h r) (vT (after h r) ∷ []) b o $
         -- [obs; the borrow; the token; the locals]
-        returns-within ! Post refl (look ! 17 refl) $ forget ! 5 refl $ forget ! 7 refl $ forget ! 9 refl $ forget ! 11 refl $ forget ! 13 refl $ forget ! 15 refl $ forget ! 17 refl $
-        move ! (17 ∷ 18 ∷ []) $ free1 ! $ move ! (15 ∷ 16 ∷ []) $ free1 ! $ move ! (13 ∷ 14 ∷ []) $ free1 ! $ move ! (11 ∷ 12 ∷ []) $ free1 ! $ move ! (9 ∷ 10 ∷ []) $ free1 ! $ move ! (7 ∷ 8 ∷ []) $ free1 ! $ move ! (5 ∷ 6 ∷ []) $ free1 ! $ move ! (3 ∷ 4 ∷ []) $ free1 ! $ free0 ! $
+        returns-within ! Post refl (look ! 17 refl) $ forget ! 5 refl $ forget ! 7 refl $ forget ! 9 refl $ forget ! 11 refl $ forget ! 13 refl $ forget ! 15 refl $ forget ! 17 refl $ move ! (17 ∷ 18 ∷ []) $ free1 ! $ move ! (15 ∷ 16 ∷ []) $ free1 ! $ move ! (13 ∷ 14 ∷ []) $ free1 ! $ move ! (11 ∷ 12 ∷ []) $ free1 ! $ move ! (9 ∷ 10 ∷ []) $ free1 ! $ move ! (7 ∷ 8 ∷ []) $ free1 ! $ move ! (5 ∷ 6 ∷ []) $ free1 ! $ move ! (3 ∷ 4 ∷ []) $ free1 ! $ free0 ! $
         keep ! (0 ∷ 1 ∷ 2 ∷ []) $ by ! (exits r e done (qO r v is)))
-        (λ _. skips ! $ exec ! C Λ ((τO, l₀) ∷ (tyRef (named 0) mut τ₁, l₁) ∷ (τP, l₂) ∷ (τG, l₃) ∷ (τK, l₄) ∷ (τQ, l₅) ∷ (tyBool, l₆) ∷ (tyRef erased mut τ₁, l₇) ∷ []) rest (atRet _ Post) $
+        (λ _. skips ! $ exec ! C Λ ((τO, l₀) ∷ (tyRef (named 0) mut τ₁, l₁) ∷ (τP0, l₂) ∷ (τG, l₃) ∷ (τK, l₄) ∷ (τQ, l₅) ∷ (tyBool, l₆) ∷ (tyRef erased mut τ₁, l₇) ∷ []) rest (atRet _ Post) $
         rewrite ! 0 (λ (u : Val). ‵ (fat fullShare (rawTy τT) b o u)) (sym (isT h)) refl $ rewrite ! 0 (λ (τs : List Ty). ‵ (cellAt fullShare τs (vT h ∷ []) b o)) (sym T-mir) refl $
         owned ! T (Is T) mT h _ was $ move ! (1 ∷ 0 ∷ []) $ closes ! tt T h (vT h ∷ []) b o $
         assigns ! (addr ! (from ! (hop ! (look ! 15 refl) (stop !)))) (from ! (stop !)) (init ! 3 refl (tt, tt)) $
@@ -130,6 +128,5 @@ module _ (νT νS νK νQ : Sym) (τsT τsS τsK τsQ : Tys) (τ₁ τG τN τO 
         peeks ! O (Is O) (shows 𝓤 H A O) a (u ∷ []) (λ a-is.
         -- [what the answer owns; the token; what is left; the locals]
         land ! (from ! (stop !)) (init ! 17 refl (yO a u a-is)) $
-        returns ! (look ! 17 refl) $ forget ! 3 refl $ forget ! 5 refl $ forget ! 7 refl $ forget ! 9 refl $ forget ! 11 refl $ forget ! 13 refl $ forget ! 15 refl $ forget ! 17 refl $
-        move ! (17 ∷ 18 ∷ []) $ free1 ! $ move ! (15 ∷ 16 ∷ []) $ free1 ! $ move ! (13 ∷ 14 ∷ []) $ free1 ! $ move ! (11 ∷ 12 ∷ []) $ free1 ! $ move ! (9 ∷ 10 ∷ []) $ free1 ! $ move ! (7 ∷ 8 ∷ []) $ free1 ! $ move ! (5 ∷ 6 ∷ []) $ free1 ! $ move ! (3 ∷ 4 ∷ []) $ free1 ! $ free0 ! $
+        returns ! (look ! 17 refl) $ forget ! 3 refl $ forget ! 5 refl $ forget ! 7 refl $ forget ! 9 refl $ forget ! 11 refl $ forget ! 13 refl $ forget ! 15 refl $ forget ! 17 refl $ move ! (17 ∷ 18 ∷ []) $ free1 ! $ move ! (15 ∷ 16 ∷ []) $ free1 ! $ move ! (13 ∷ 14 ∷ []) $ free1 ! $ move ! (11 ∷ 12 ∷ []) $ free1 ! $ move ! (9 ∷ 10 ∷ []) $ free1 ! $ move ! (7 ∷ 8 ∷ []) $ free1 ! $ move ! (5 ∷ 6 ∷ []) $ free1 ! $ move ! (3 ∷ 4 ∷ []) $ free1 ! $ free0 ! $
         by ! (passes a u)))))))))))))))))))

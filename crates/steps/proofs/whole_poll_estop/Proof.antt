@@ -1,8 +1,8 @@
 use mathlib.Core.Path.{sym, _∙_}
 use Rattle.steps.proofs.Standings.{is-started, turns-started}
 use borrow.Author.Needs.{needs}
-use Rattle.steps.proofs.poll_estop.Statement.{statement}
-use Rattle.steps.proofs.poll_estop.Tie as tie
+use Rattle.steps.proofs.whole_poll_estop.Statement.{statement}
+use Rattle.steps.proofs.whole_poll_estop.Tie as tie
 
 is-started-requires : tie.Need-is-started-requires
 is-started-requires c κs = search needs
@@ -22,8 +22,8 @@ called-requires c κs = search needs
 returns-2 : tie.Need-returns-2
 returns-2 c = c .called .ensures _ (sym (c .before .before .is-started .ensures) ∙ c .before .if1 .left)
 
-pub poll-estop-spec : {M : Type 1} → statement M
-poll-estop-spec =
+pub whole-poll-estop-spec : {M : Type 1} → statement M
+whole-poll-estop-spec =
     tie.close
     (tie.spec
     is-started-requires
