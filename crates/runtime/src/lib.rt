@@ -1,7 +1,7 @@
 // The thin outer layer (runtime.rs: the public functions of `Runtime`): a start over a lent list of records, and each call, reply and reading over
 // a lent `Runtime`, which is taken apart, handed by value to `steps`, and altered in place; the receipts are not copied. Nothing is decided here:
-// whether a tick is done at once is `steps`' answer too. Promises: the runtime stands where the rules' `react` says, the answer is its output, and
-// it stays sound; a reading shows what the rules' `read` does. Rests on `steps` and `readings`.
+// whether a tick or a poll is done at once is `steps`' answer too. Promises: the runtime stands where the rules' `react` says, the answer is its
+// output, and it stays sound; a reading shows what the rules' `read` does. Rests on `steps` and `readings`.
 use model::Capability;
 use model::Config;
 use model::LeaseRequest;
