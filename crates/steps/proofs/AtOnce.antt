@@ -58,7 +58,7 @@ module _ (rt : Runtime) (d : rt .starting .stage ≡ Stage.Started) (h : Runtime
   unfolding phaseAt phaseOf
   is = rw d (idle (rt .core .waiting .awaited) (quickened rt q .core) (bookOf (quickened rt q .core) kept) free)
 
-  pub moves-at-once : Moves (quickened rt q) (q .answer) (react (phaseIn rt) i)
+  moves-at-once : Moves (quickened rt q) (q .answer) (react (phaseIn rt) i)
   moves-at-once = record {
     output = sym (ap (λ (x : Reaction). x .output) (ap (λ (p : Phase). react p i) was ∙ e kept));
     phase = is ∙ sym (ap (λ (x : Reaction). x .phase) (ap (λ (p : Phase). react p i) was ∙ e kept));
@@ -79,7 +79,7 @@ quickens stage core i answer t m {started} {waiting} {rest} s w e = record {
 }
 
 -- a tick that finds nothing to do
-pub quiet-at-once : (core : Core) (now : ℕ) (m : Mode) (s : Starting) → m .state ≡ refreshed (any isSome (map leaseIn (core .leases))) (core .mode .state) → (kept : List Receipt)
+quiet-at-once : (core : Core) (now : ℕ) (m : Mode) (s : Starting) → m .state ≡ refreshed (any isSome (map leaseIn (core .leases))) (core .mode .state) → (kept : List Receipt)
     → isQuiet now (bookOf core kept) ≡ true
     → react (Idle (bookOf core kept)) (Calls (Tick now)) ≡ record { output = outputAt Answer.Returned s (sinceTick core now m); phase = Idle (bookOf (sinceTick core now m) kept) }
 unfolding react effect apply called begin proceed outputAt bookOf quietly refreshState withLastTick withState

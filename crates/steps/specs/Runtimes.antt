@@ -229,7 +229,8 @@ sinceTick core t m =
 abbrev pub quickened : Runtime → Quick → Runtime
 quickened rt q = record { starting = rt .starting; core = sinceTick (rt .core) (q .«last_tick») (q .mode); places = rt .places; slots = rt .slots }
 
--- what a quick call promises where it is done: the same as the whole one
+-- What a quick call promises where it is done: the same as the whole one. Which calls are done at once is left free: the caller goes on with the
+-- whole call where one is not.
 pub record Quickens (stage : Stage) (core : Core) (i : Input) (q : Quick) : Type 0 where
   pub moves : q .done ≡ true → (rt : Runtime) → rt .starting .stage ≡ stage → rt .core ≡ core → RuntimeSound rt
       → Moves (quickened rt q) (q .answer) (react (phaseIn rt) i)
