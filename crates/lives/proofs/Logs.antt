@@ -1,11 +1,10 @@
 -- The log of a life's inputs and outputs, oldest first, is the one that the rules build newest first. Assumes nothing.
 use mathlib.Core.List.{List, [], _∷_, reverse, reverseAux}
-use mathlib.Core.Path.{_≡_, refl, ap, _∙_}
+use mathlib.Core.Path.{_≡_, refl}
 use Rattle.rules.specs.Protocol.{Input, Start}
 use Rattle.rules.specs.Lives.{Life, outputsFrom, outputs}
 use Rattle.rules.specs.Log.{History, phaseAt, logOf}
-use Rattle.lives.specs.Runs.{CodeLife, lifeOf, logAfter, logFrom, logIn}
-use Rattle.lives.proofs.Faithful.{faithful}
+use Rattle.lives.specs.Runs.{logAfter, logFrom}
 
 log-aux : (s : Start) (is : List Input) (h : History) → logAfter (logOf s h) is (outputsFrom (phaseAt s h) is) ≡ logOf s (reverseAux is h)
 unfolding logAfter logOf outputsFrom phaseAt
@@ -15,8 +14,3 @@ log-aux s (i ∷ is) h = log-aux s is (i ∷ h)
 pub log-forward : (l : Life) → logFrom (l .inputs) (outputs l) ≡ logOf (l .start) (reverse (l .inputs))
 unfolding logFrom outputs logOf phaseAt
 log-forward l = log-aux (l .start) (l .inputs) []
-
--- the log of a life of the code
-pub same-log : (c : CodeLife) → logIn c ≡ logOf (lifeOf c .start) (reverse (c .inputs))
-unfolding lifeOf
-same-log c = ap (logFrom (c .inputs)) (faithful c) ∙ log-forward (lifeOf c)

@@ -1,27 +1,34 @@
--- Demand 3 of the code: of every list of its lives whose boot numbers differ. Assumes nothing.
-use mathlib.Core.List.{List, [], _∷_, _++_, map}
-use mathlib.Core.Path.{_≡_, refl, ap, ap₂}
+-- Demand 3 of lives whose outputs and ends are those of the rules: of every list of them whose boot numbers differ. Assumes nothing.
+use mathlib.Core.List.{List, [], _∷_, _++_, map, reverse}
+use mathlib.Core.Path.{_≡_, refl, ap, ap₂, _∙_}
+use Rattle.rules.specs.Protocol.{Output, Phase}
+use Rattle.rules.specs.Lives.{Life, outputs, phaseOf}
 use Rattle.rules.specs.Log as Log
-use Rattle.rules.specs.Log.{executed}
+use Rattle.rules.specs.Log.{logOf, executed}
 use Rattle.rules.specs.Claim.{Distinct}
 use Rattle.rules.proofs.Theorem.{demand-3}
-use Rattle.start.specs.Starts.{startOf}
-use Rattle.lives.specs.Runs.{CodeLife, lifeOf, executedIn, CodeClaim}
+use Rattle.lives.specs.Runs.{CodeLife, lifeOf, logFrom, logIn, executedIn, ClaimOf, CodeClaim}
 use Rattle.lives.proofs.Faithful.{faithful, same-end}
-use Rattle.lives.proofs.Logs.{same-log}
+use Rattle.lives.proofs.Logs.{log-forward}
 
-same-orders : (cs : List CodeLife) → executedIn cs ≡ Log.executedIn (map lifeOf cs)
-unfolding executedIn Log.executedIn lifeOf
-same-orders [] = refl
-same-orders (c ∷ cs) = ap₂ (λ l os. map (λ s. s .action) (executed l) ++ os) (same-log c) (same-orders cs)
+module _ {C : Type 0} (lifeIn : C → Life) (outputsIn : C → List Output) (endIn : C → Phase) (same : (c : C) → outputsIn c ≡ outputs (lifeIn c)) (stands : (c : C) → endIn c ≡ phaseOf (lifeIn c)) where
+  same-log : (c : C) → logIn lifeIn outputsIn endIn c ≡ logOf (lifeIn c .start) (reverse (lifeIn c .inputs))
+  same-log c = ap (logFrom (lifeIn c .inputs)) (same c) ∙ log-forward (lifeIn c)
 
-same-boots : (cs : List CodeLife) → map (λ l. l .start .bootId) (map lifeOf cs) ≡ map (λ c. c .start .«boot_id») cs
-unfolding lifeOf startOf
-same-boots [] = refl
-same-boots (c ∷ cs) = ap (λ bs. c .start .«boot_id» ∷ bs) (same-boots cs)
+  same-orders : (cs : List C) → executedIn lifeIn outputsIn endIn cs ≡ Log.executedIn (map lifeIn cs)
+  unfolding executedIn Log.executedIn
+  same-orders [] = refl
+  same-orders (c ∷ cs) = ap₂ (λ l os. map (λ s. s .action) (executed l) ++ os) (same-log c) (same-orders cs)
 
-pub demand-3-of-the-code : (cs : List CodeLife) → Distinct (map (λ c. c .start .«boot_id») cs) → CodeClaim cs
-unfolding lifeOf
-demand-3-of-the-code cs differ =
-    let k = demand-3 (map lifeOf cs) (rw (same-boots cs) differ) in
-    record { same = faithful; stands = same-end; log = same-log; once = rw (same-orders cs) (k .once); claim = k }
+  same-boots : (cs : List C) → map (λ l. l .start .bootId) (map lifeIn cs) ≡ map (λ c. lifeIn c .start .bootId) cs
+  same-boots [] = refl
+  same-boots (c ∷ cs) = ap (λ bs. lifeIn c .start .bootId ∷ bs) (same-boots cs)
+
+  pub claim-of : (cs : List C) → Distinct (map (λ c. lifeIn c .start .bootId) cs) → ClaimOf lifeIn outputsIn endIn cs
+  claim-of cs differ =
+      let k = demand-3 (map lifeIn cs) (rw (same-boots cs) differ) in
+      record { same = same; stands = stands; log = same-log; once = rw (same-orders cs) (k .once); claim = k }
+
+-- of the code by value
+pub demand-3-of-the-code : (cs : List CodeLife) → Distinct (map (λ c. lifeOf c .start .bootId) cs) → CodeClaim cs
+demand-3-of-the-code = claim-of lifeOf _ _ faithful same-end

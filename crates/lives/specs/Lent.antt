@@ -1,18 +1,14 @@
 -- Lives over a lent runtime, by the promises of the outer functions alone (crate runtime), and demand 3 of them (00). As in Runs, a step takes a
 -- promise as it stands, with its condition, and that the condition holds is proved along the run.
-use mathlib.Core.List.{List, [], _∷_, _++_, map, reverse}
+use mathlib.Core.List.{List, _∷_}
 use mathlib.Core.Path.{_≡_}
-use Rattle.model.specs.declared.Action.{Action}
 use Rattle.rules.specs.Protocol.{Call, Reply, Reading, Input, Calls, Replies, Reads, Value, Output, Shows, Start, start as startRule, react}
-use Rattle.rules.specs.Lives as Lives
 use Rattle.rules.specs.Lives.{Life}
-use Rattle.rules.specs.Log.{Log, logOf, executed}
-use Rattle.rules.specs.Claim.{Distinct, Claim}
 use Rattle.start.specs.declared.Stage.the-variants.{Started}
 use Rattle.steps.specs.declared.Answer.{Answer}
 use Rattle.steps.specs.declared.Runtime.{Runtime}
 use Rattle.steps.specs.Runtimes.{phaseIn, outputAt, RuntimeSound, Moves, Shown}
-use Rattle.lives.specs.Runs.{Run, logFrom}
+use Rattle.lives.specs.Runs.{Run, ClaimOf}
 
 -- a step ---------------------------------------------------------------------------------------------------------------
 
@@ -52,20 +48,7 @@ outputsOf c = outputIn (c .answer) (c .first) ∷ c .later
 unfoldable pub lifeOf : LentLife → Life
 lifeOf c = record { start = c .start; inputs = c .inputs }
 
-abbrev pub logIn : LentLife → Log
-logIn c = logFrom (c .inputs) (outputsOf c)
-
--- the orders that reached execute, over a list of lives
-unfoldable pub executedIn : List LentLife → List Action
-executedIn [] = []
-executedIn (c ∷ cs) = map (λ s. s .action) (executed (logIn c)) ++ executedIn cs
-
 -- demand 3 -------------------------------------------------------------------------------------------------------------
 
--- as of the code by value (Runs, CodeClaim)
-pub record LentClaim (cs : List LentLife) : Type 0 where
-  pub same : (c : LentLife) → outputsOf c ≡ Lives.outputs (lifeOf c)
-  pub stands : (c : LentLife) → phaseIn (c .last) ≡ Lives.phaseOf (lifeOf c)
-  pub log : (c : LentLife) → logIn c ≡ logOf (c .start) (reverse (c .inputs))
-  pub once : Distinct (executedIn cs)
-  pub claim : Claim (map lifeOf cs)
+abbrev pub LentClaim : List LentLife → Type 0
+LentClaim cs = ClaimOf lifeOf outputsOf (λ c. phaseIn (c .last)) cs

@@ -97,23 +97,28 @@ unfoldable pub logFrom : List Input → List Output → Log
 logFrom is [] = []
 logFrom is (first ∷ outs) = logAfter (handed first) is outs
 
-abbrev pub logIn : CodeLife → Log
-logIn c = logFrom (c .inputs) (outputsOf c)
-
--- the orders that reached execute, over a list of lives
-unfoldable pub executedIn : List CodeLife → List Action
-executedIn [] = []
-executedIn (c ∷ cs) = map (λ s. s .action) (executed (logIn c)) ++ executedIn cs
-
 -- demand 3 -------------------------------------------------------------------------------------------------------------
 
-pub record CodeClaim (cs : List CodeLife) : Type 0 where
-  -- of every life of the code, also outside the list: what comes out is what the rules say, and where it ends is where they end
-  pub same : (c : CodeLife) → outputsOf c ≡ Lives.outputs (lifeOf c)
-  pub stands : (c : CodeLife) → phaseIn (c .last) ≡ Lives.phaseOf (lifeOf c)
-  -- so its own log, by inputs and outputs alone, is the one that the claim speaks of
-  pub log : (c : CodeLife) → logIn c ≡ logOf (startOf (c .start)) (reverse (c .inputs))
-  -- "one order, all eleven fields alike, reaches `execute` at most once in all of them", by the code's own outputs
-  pub once : Distinct (executedIn cs)
-  -- and every part of the claim, of these lives as the rules have them
-  pub claim : Claim (map lifeOf cs)
+-- Of lives of some code, by the life in the rules that each of them is, by all that came out of it, and by the phase that it ended in.
+module _ {C : Type 0} (lifeIn : C → Life) (outputsIn : C → List Output) (endIn : C → Phase) where
+  abbrev pub logIn : C → Log
+  logIn c = logFrom (lifeIn c .inputs) (outputsIn c)
+
+  -- the orders that reached execute, over a list of lives
+  unfoldable pub executedIn : List C → List Action
+  executedIn [] = []
+  executedIn (c ∷ cs) = map (λ s. s .action) (executed (logIn c)) ++ executedIn cs
+
+  pub record ClaimOf (cs : List C) : Type 0 where
+    -- of every life of the code, also outside the list: what comes out is what the rules say, and where it ends is where they end
+    pub same : (c : C) → outputsIn c ≡ Lives.outputs (lifeIn c)
+    pub stands : (c : C) → endIn c ≡ Lives.phaseOf (lifeIn c)
+    -- so its own log, by inputs and outputs alone, is the one that the claim speaks of
+    pub log : (c : C) → logIn c ≡ logOf (lifeIn c .start) (reverse (lifeIn c .inputs))
+    -- "one order, all eleven fields alike, reaches `execute` at most once in all of them", by the code's own outputs
+    pub once : Distinct (executedIn cs)
+    -- and every part of the claim, of these lives as the rules have them
+    pub claim : Claim (map lifeIn cs)
+
+abbrev pub CodeClaim : List CodeLife → Type 0
+CodeClaim cs = ClaimOf lifeOf outputsOf (λ c. phaseIn (c .last)) cs

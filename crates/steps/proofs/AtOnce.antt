@@ -4,7 +4,7 @@ use mathlib.Core.Bool.{Bool, true, false, not, _&&_, false≢true}
 use borrow.Author.Tests.{not-true}
 use lib.Dec.{eqb}
 use mathlib.Core.List.{List, map}
-use mathlib.Core.Path.{_≡_, refl, sym, ap, _∙_, subst}
+use mathlib.Core.Path.{_≡_, refl, sym, ap, ap₂, _∙_, subst}
 use Rattle.model.specs.declared.Receipt.{Receipt}
 use Rattle.model.specs.declared.RuntimeState.{RuntimeState}
 use Rattle.model.specs.Lists.{any}
@@ -12,7 +12,7 @@ use Rattle.model.proofs.Tests.{and-both}
 use Rattle.rules.specs.Admission.{axes, isSome}
 use Rattle.rules.specs.Book.{Book, withLastTick, withState}
 use Rattle.rules.specs.Interaction.{Done, Returned}
-use Rattle.rules.specs.Protocol.{Input, Calls, Tick, PollEstop, Phase, Idle, Reaction, Answers, begin, proceed, called, effect, apply, react}
+use Rattle.rules.specs.Protocol.{Call, Input, Calls, Tick, PollEstop, Phase, Idle, Reaction, Answers, begin, proceed, called, effect, apply, react}
 use Rattle.rules.specs.Rules.{refreshState, refreshed, pollEstop}
 use Rattle.machine.specs.declared.Awaited.{Awaited}
 use Rattle.machine.specs.declared.Awaited.the-variants as Awaited
@@ -30,7 +30,7 @@ use Rattle.steps.specs.declared.Answer.{Answer}
 use Rattle.steps.specs.declared.Answer.the-variants as Answer
 use Rattle.steps.specs.declared.Quick.{Quick}
 use Rattle.steps.specs.declared.Runtime.{Runtime}
-use Rattle.steps.specs.Runtimes.{receiptsOf, phaseAt, phaseIn, outputAt, RuntimeSound, isStarted, Moves, sinceTick, quickened, Quickens}
+use Rattle.steps.specs.Runtimes.{receiptsOf, phaseAt, phaseIn, outputAt, RuntimeSound, isStarted, Moves, sinceTick, quickened, atOnce, Quickens}
 use Rattle.steps.proofs.Standings.{is-started}
 
 -- no reply is awaited: the runtime is idle
@@ -66,16 +66,18 @@ module _ (rt : Runtime) (d : rt .starting .stage ≡ Stage.Started) (h : Runtime
   }
 
 -- a call that reads as much of the core, and is done at once where `rest` holds too
-quickens : (stage : Stage) (core : Core) (i : Input) (answer : Answer) (t : ℕ) (m : Mode) {started waiting rest : Bool} → started ≡ isStarted stage → waiting ≡ waits (core .waiting .awaited)
-    → (rest ≡ true → (s : Starting) (kept : List Receipt) → react (Idle (bookOf core kept)) i ≡ record { output = outputAt answer s (sinceTick core t m); phase = Idle (bookOf (sinceTick core t m) kept) })
-    → Quickens stage core i (record { done = (started && not waiting) && rest; answer = answer; «last_tick» = t; mode = m })
-quickens stage core i answer t m {started} {waiting} {rest} s w e = record {
+quickens : (stage : Stage) (core : Core) (c : Call) (answer : Answer) (t : ℕ) (m : Mode) {started waiting rest : Bool} → started ≡ isStarted stage → waiting ≡ waits (core .waiting .awaited)
+    → ((kept : List Receipt) → rest ≡ atOnce c (bookOf core kept))
+    → (rest ≡ true → (s : Starting) (kept : List Receipt) → react (Idle (bookOf core kept)) (Calls c) ≡ record { output = outputAt answer s (sinceTick core t m); phase = Idle (bookOf (sinceTick core t m) kept) })
+    → Quickens stage core c (record { done = (started && not waiting) && rest; answer = answer; «last_tick» = t; mode = m })
+quickens stage core c answer t m {started} {waiting} {rest} s w d e = record {
+  decided = λ kept. ap₂ (λ (x y : Bool). x && y) (ap₂ (λ (x y : Bool). x && not y) s w) (d kept);
   moves = λ done rt a b h.
       let both = and-both (started && not waiting) rest done in
       let first = and-both started (not waiting) (both .0) in
-      moves-at-once rt (a ∙ is-started stage (sym s ∙ first .0)) h (ap (λ (c : Core). waits (c .waiting .awaited)) b ∙ sym w ∙ not-true waiting (first .1)) i (record { done = true; answer = answer; «last_tick» = t; mode = m })
-      (subst (λ (c : Core). (kept : List Receipt) → react (Idle (bookOf c kept)) i
-      ≡ record { output = outputAt answer (rt .starting) (sinceTick c t m); phase = Idle (bookOf (sinceTick c t m) kept) }) (sym b) (e (both .1) (rt .starting)));
+      moves-at-once rt (a ∙ is-started stage (sym s ∙ first .0)) h (ap (λ (k : Core). waits (k .waiting .awaited)) b ∙ sym w ∙ not-true waiting (first .1)) (Calls c) (record { done = true; answer = answer; «last_tick» = t; mode = m })
+      (subst (λ (k : Core). (kept : List Receipt) → react (Idle (bookOf k kept)) (Calls c)
+      ≡ record { output = outputAt answer (rt .starting) (sinceTick k t m); phase = Idle (bookOf (sinceTick k t m) kept) }) (sym b) (e (both .1) (rt .starting)));
 }
 
 -- a tick that finds nothing to do
@@ -90,10 +92,10 @@ quiet-at-once core now m s e kept q =
 pub quickens-tick : (stage : Stage) (core : Core) (now : ℕ) (m : Mode) → m .state ≡ refreshed (any isSome (map leaseIn (core .leases))) (core .mode .state)
     → {started waiting due idle : Bool} → started ≡ isStarted stage → waiting ≡ waits (core .waiting .awaited) → ((kept : List Receipt) → due ≡ onTime now (bookOf core kept))
     → idle ≡ noneDue axes now (map leaseIn (core .leases)) (map activeIn (core .active))
-    → Quickens stage core (Calls (Tick now)) (record { done = (started && not waiting) && (due && idle); answer = Answer.Returned; «last_tick» = now; mode = m })
-unfolding isQuiet bookOf
+    → Quickens stage core (Tick now) (record { done = (started && not waiting) && (due && idle); answer = Answer.Returned; «last_tick» = now; mode = m })
+unfolding isQuiet bookOf atOnce
 quickens-tick stage core now m e s w t n =
-    quickens stage core (Calls (Tick now)) Answer.Returned now m s w (λ quiet start kept. quiet-at-once core now m start e kept (rw (sym (t kept), sym n) quiet))
+    quickens stage core (Tick now) Answer.Returned now m s w (λ kept. ap₂ (λ (x y : Bool). x && y) (t kept) n) (λ quiet start kept. quiet-at-once core now m start e kept (rw (sym (t kept), sym n) quiet))
 
 -- a poll that sees no raise
 poll-at-once : (core : Core) (raised now : ℕ) (s : Starting) (kept : List Receipt) → eqb raised (core .«estop_seen») ≡ true
@@ -103,7 +105,8 @@ unfolding react effect apply called begin proceed pollEstop outputAt bookOf
 poll-at-once core raised now s kept e = rw e
 
 pub quickens-poll : (stage : Stage) (core : Core) (raised now : ℕ) {started waiting : Bool} → started ≡ isStarted stage → waiting ≡ waits (core .waiting .awaited)
-    → Quickens stage core (Calls (PollEstop raised now))
+    → Quickens stage core (PollEstop raised now)
     (record { done = (started && not waiting) && eqb raised (core .«estop_seen»); answer = Answer.Polled false; «last_tick» = core .«last_tick»; mode = core .mode })
+unfolding bookOf atOnce
 quickens-poll stage core raised now s w =
-    quickens stage core (Calls (PollEstop raised now)) (Answer.Polled false) (core .«last_tick») (core .mode) s w (λ same start kept. poll-at-once core raised now start kept same)
+    quickens stage core (PollEstop raised now) (Answer.Polled false) (core .«last_tick») (core .mode) s w (λ kept. refl) (λ same start kept. poll-at-once core raised now start kept same)

@@ -1,10 +1,10 @@
 -- What a runtime stands for, what a step on its parts promises, and what its readings show.
 use Prim.Native.Nat.{ℕ, _<_}
-use mathlib.Core.Bool.{Bool, true, false, cond}
+use mathlib.Core.Bool.{Bool, true, false, cond, not, _&&_}
 use mathlib.Core.List.{List, []}
 use mathlib.Core.Option.{Option, some, none}
 use mathlib.Core.Path.{_≡_}
-use lib.Dec.{ltb}
+use lib.Dec.{eqb, ltb}
 use lib.ListN.{length, take, set, getD, getElem?}
 use Rattle.model.specs.declared.Capability.{Capability}
 use Rattle.model.specs.declared.Config.{Config}
@@ -16,7 +16,7 @@ use Rattle.model.specs.Records.{noLease}
 use Rattle.rules.specs.Book.{Book}
 use Rattle.rules.specs.Interaction.{Returned, Polled, Succeeded, Leased, Refused, Submitted}
 use Rattle.rules.specs.Protocol as Protocol
-use Rattle.rules.specs.Protocol.{Input, Output, StartRefused, Hands, Reminds, Refuses, Answers, Phase, Reaction, react, Reading, ReadSnapshot, ReadLease, ReadCapability, ReadReceipt, Value, OfSnapshot, OfLease, OfCapability, OfReceipt, read}
+use Rattle.rules.specs.Protocol.{Call, Tick, UpdateState, EmergencyStop, PollEstop, RecoverLocal, Acquire, Renew, Cancel, Submit, Input, Calls, Output, StartRefused, Hands, Reminds, Refuses, Answers, Phase, Reaction, react, Reading, ReadSnapshot, ReadLease, ReadCapability, ReadReceipt, Value, OfSnapshot, OfLease, OfCapability, OfReceipt, read}
 use Rattle.receipts.specs.declared.KeptReceipt.{KeptReceipt}
 use Rattle.receipts.specs.Blank.{blank}
 use Rattle.receipts.specs.Indexes.{Stores, listOf}
@@ -31,6 +31,8 @@ use Rattle.machine.specs.declared.Kind.the-variants as Kind
 use Rattle.machine.specs.declared.Mode.{Mode}
 use Rattle.machine.specs.declared.Outcome.{Outcome}
 use Rattle.machine.specs.Machine.{leaseIn, capabilitiesOf, bookOf, phaseOf, itemOf, keptAfter, Sound}
+use Rattle.calls.specs.Waits.{waits}
+use Rattle.resumption.specs.Quiet.{isQuiet}
 use Rattle.readings.specs.declared.CapabilitySlot.{CapabilitySlot}
 use Rattle.readings.specs.Readings.{slotOf, capabilityIn}
 use Rattle.start.specs.declared.Listed.{Listed}
@@ -229,11 +231,23 @@ sinceTick core t m =
 abbrev pub quickened : Runtime → Quick → Runtime
 quickened rt q = record { starting = rt .starting; core = sinceTick (rt .core) (q .«last_tick») (q .mode); places = rt .places; slots = rt .slots }
 
--- What a quick call promises where it is done: the same as the whole one. Which calls are done at once is left free: the caller goes on with the
--- whole call where one is not.
-pub record Quickens (stage : Stage) (core : Core) (i : Input) (q : Quick) : Type 0 where
+-- which calls an idle runtime answers at once, by its book: a tick that trips nothing and finds nothing over, a poll that sees no raise
+unfoldable pub atOnce : Call → Book → Bool
+atOnce (Tick now) b = isQuiet now b
+atOnce (PollEstop raised now) b = eqb raised (b .estopSeen)
+atOnce (UpdateState flags now) b = false
+atOnce (EmergencyStop now) b = false
+atOnce (RecoverLocal now) b = false
+atOnce (Acquire request now) b = false
+atOnce (Renew renewal) b = false
+atOnce (Cancel owner lease now) b = false
+atOnce (Submit submission) b = false
+
+-- what a quick call promises: when it is done, and that it then leaves what the whole call would
+pub record Quickens (stage : Stage) (core : Core) (c : Call) (q : Quick) : Type 0 where
+  pub decided : (kept : List Receipt) → q .done ≡ ((isStarted stage && not (waits (core .waiting .awaited))) && atOnce c (bookOf core kept))
   pub moves : q .done ≡ true → (rt : Runtime) → rt .starting .stage ≡ stage → rt .core ≡ core → RuntimeSound rt
-      → Moves (quickened rt q) (q .answer) (react (phaseIn rt) i)
+      → Moves (quickened rt q) (q .answer) (react (phaseIn rt) (Calls c))
 
 -- the start's own replies ----------------------------------------------------------------------------------------------------
 

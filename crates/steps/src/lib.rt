@@ -313,7 +313,7 @@ fn none_over(leases: [LeaseSlot; 8], orders: [ActiveSlot; 8], now: u64) -> bool
 
 // A tick that finds nothing to do. The core is only read here, so that nothing of it is copied.
 pub fn quick_tick(stage: Stage, core: Core, now: u64) -> Quick
-    ensures { λ r. ⌜ Quickens stage core (Calls (Tick now)) r ⌝ }
+    ensures { λ r. ⌜ Quickens stage core (Tick now) r ⌝ }
 {
     let mode = core.mode;
     let leases = core.leases;
@@ -334,7 +334,7 @@ pub fn quick_tick(stage: Stage, core: Core, now: u64) -> Quick
 
 // A poll that sees no raise.
 pub fn quick_poll_estop(stage: Stage, core: Core, raised: u32, now: u64) -> Quick
-    ensures { λ r. ⌜ Quickens stage core (Calls (PollEstop raised now)) r ⌝ }
+    ensures { λ r. ⌜ Quickens stage core (PollEstop raised now) r ⌝ }
 {
     let mode = core.mode;
     let free = is_started(stage) & !is_waiting(core);

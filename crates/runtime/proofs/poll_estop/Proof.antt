@@ -93,7 +93,7 @@ fn-is : fn ≡ code.function
 fn-is = ap (λ (l : List Local). record { lifetimes = 1; outlives = []; params = 3; locals = l; body = fn .body }) locals-is ∙ ap (λ (s : Stmt). record { lifetimes = 1; outlives = []; params = 3; locals = code.function .locals; body = s }) body-is
 
 abbrev Said : Runtime → ℕ → ℕ → Quick → Type 0
-Said h raised time r = Quickens (h .starting .stage) (h .core) (Calls (PollEstop raised time)) r
+Said h raised time r = Quickens (h .starting .stage) (h .core) (PollEstop raised time) r
 
 is-done : (d : Bool) → Holds d → d ≡ true
 is-done true e = refl

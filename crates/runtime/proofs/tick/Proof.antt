@@ -91,7 +91,7 @@ fn-is : fn ≡ code.function
 fn-is = ap (λ (l : List Local). record { lifetimes = 1; outlives = []; params = 2; locals = l; body = fn .body }) locals-is ∙ ap (λ (s : Stmt). record { lifetimes = 1; outlives = []; params = 2; locals = code.function .locals; body = s }) body-is
 
 abbrev Said : Runtime → ℕ → Quick → Type 0
-Said h time r = Quickens (h .starting .stage) (h .core) (Calls (Tick time)) r
+Said h time r = Quickens (h .starting .stage) (h .core) (Tick time) r
 
 is-done : (d : Bool) → Holds d → d ≡ true
 is-done true e = refl
