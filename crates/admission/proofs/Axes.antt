@@ -10,7 +10,7 @@ use native.Mathlib.Omega.{arith}
 use Rattle.model.specs.declared.Capability.{Capability}
 use Rattle.model.specs.Soundness.{axisUsed, sound}
 use Rattle.model.proofs.Meaning.{sound-axis}
-use Rattle.rules.specs.Admissible.{Mem}
+use Rattle.rules.specs.Lists.{Mem}
 
 module _ (axis : ℕ) where
   pub unused-past : (l : List Capability) → ((c : Capability) → Mem c l → sound c ≡ true) → 8 ≤ axis → axisUsed l axis ≡ false

@@ -13,7 +13,7 @@ use lib.ListN.{length, getD, take, drop, drop-of-length-le, length-take}
 use lib.Pow.{pow-lt}
 use lib.Seq.{drop-cons, getD-take}
 use Rattle.model.specs.declared.Capability.{Capability}
-use Rattle.rules.specs.Admissible.{Mem}
+use Rattle.rules.specs.Lists.{Mem}
 use Rattle.rules.specs.Admission.{allowed}
 use Rattle.admission.proofs.Numbers.{or-assoc}
 

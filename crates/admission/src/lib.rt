@@ -17,7 +17,7 @@ ghost use lib.Dec.{leb};
 ghost use lib.ListN.{take};
 ghost use Rattle.model.specs.declared.Receipt.{Receipt};
 ghost use Rattle.model.specs.Soundness.{axisUsed};
-ghost use Rattle.rules.specs.Admissible.{Mem};
+ghost use Rattle.rules.specs.Lists.{Mem};
 ghost use Rattle.rules.specs.Admission.{firstFailing, holdsOf, isEstopped, isFaulted, badDuration, validRequest, isFree, isHeldBy, heldAxis, acquireChecks, renewChecks};
 ghost use Rattle.rules.specs.Admission.{ready as readiness, allowed as allowedBits};
 ghost use Rattle.rules.specs.Receipts.{top};

@@ -11,7 +11,8 @@ use Rattle.model.specs.declared.Renewal.{Renewal}
 use Rattle.model.specs.declared.RuntimeState.{RuntimeState}
 use Rattle.model.specs.Lists.{any}
 use Rattle.rules.specs.Admission.{isSome}
-use Rattle.rules.specs.Book.{Book, leaseAt, withLeases, withNextLease, withEpoch, withState}
+use Rattle.rules.specs.Book.{Book, leaseAt}
+use Rattle.rules.specs.With.{withLeases, withNextLease, withEpoch, withState}
 use Rattle.rules.specs.Receipts.{bump}
 use Rattle.rules.specs.Rules.{refreshed, refreshState, bumpEpoch, newLease, granted, leased, grant, extended, extend}
 

@@ -9,7 +9,7 @@ use Rattle.model.specs.declared.Capability.{Capability}
 use Rattle.model.specs.declared.LeaseRequest.{LeaseRequest}
 use Rattle.model.specs.declared.Renewal.{Renewal}
 use Rattle.model.specs.Soundness.{sound}
-use Rattle.rules.specs.Admissible.{Mem}
+use Rattle.rules.specs.Lists.{Mem}
 use Rattle.rules.specs.Admission.{Check, firstFailing, ready, validRequest, acquireChecks, renewChecks}
 use Rattle.rules.specs.Book.{Book}
 use Rattle.rules.specs.Receipts.{top}

@@ -4,7 +4,7 @@ use mathlib.Core.Logic.{_≢_}
 use mathlib.Core.Path.{_≡_, refl, ap, ap₂, _∙_}
 use Rattle.model.specs.declared.Receipt.{Receipt}
 use Rattle.rules.specs.Protocol.{Input, Reading, Reads, Value, Shows, Output, Phase, Reaction, read, shown as shownRule, start as startRule, effect, apply, react}
-use Rattle.rules.specs.Lives.{outputsFrom, phaseFrom, outputs, phaseOf as phaseAfter}
+use Rattle.rules.specs.Lives.{outputsFrom, phaseFrom, outputs, endOf as phaseAfter}
 use Rattle.machine.specs.declared.Core.{Core}
 use Rattle.machine.specs.declared.Outcome.{Outcome}
 use Rattle.machine.specs.Machine.{bookOf, phaseOf, outputAt, keptAfter, reactionOf, Sound, Gives}
@@ -12,7 +12,7 @@ use Rattle.readings.proofs.Books.{book-at}
 use Rattle.start.specs.declared.Stage.the-variants.{Started}
 use Rattle.start.specs.declared.StartOutcome.{StartOutcome}
 use Rattle.start.specs.Starts.{startOf, startOutputAt, startReactionOf, StartSound, StartGives}
-use Rattle.lives.specs.Runs.{Standing, Begun, Running, phaseIn, Leaves, goes-on, ends, Step, called, replied, shown, starting, CodeLife, outputsOf, lifeOf}
+use Rattle.lives.specs.Runs.{Standing, Begun, Running, phaseIn, Leaves, goes-on, ends, CodeStep, called, replied, shown, starting, CodeLife, outputsOf, lifeOf}
 use Rattle.lives.proofs.Follows.{Meets, follows}
 
 -- what the promises ask for
@@ -38,7 +38,7 @@ shows : (core : Core) (kept : List Receipt) (q : Reading) (v : Value) → Sound 
 unfolding phaseIn react apply effect shownRule phaseOf
 shows core kept q v h e = record { output = rw (e, book-at (core .waiting .awaited) core (bookOf core kept)); phase = refl; fit = h }
 
-step : {s t : Standing} {i : Input} {out : Output} → Fit s → Step s i out t → Meets phaseIn Fit (react (phaseIn s) i) out t
+step : {s t : Standing} {i : Input} {out : Output} → Fit s → CodeStep s i out t → Meets phaseIn Fit (react (phaseIn s) i) out t
 unfolding phaseIn
 step h (called {kept = kept} o p) = acts kept (p h)
 step h (replied {kept = kept} o p) = acts kept (p h)

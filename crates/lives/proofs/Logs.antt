@@ -3,14 +3,14 @@ use mathlib.Core.List.{List, [], _∷_, reverse, reverseAux}
 use mathlib.Core.Path.{_≡_, refl}
 use Rattle.rules.specs.Protocol.{Input, Start}
 use Rattle.rules.specs.Lives.{Life, outputsFrom, outputs}
-use Rattle.rules.specs.Log.{History, phaseAt, logOf}
+use Rattle.rules.specs.Log.{History, phaseAfter, logOf}
 use Rattle.lives.specs.Runs.{logAfter, logFrom}
 
-log-aux : (s : Start) (is : List Input) (h : History) → logAfter (logOf s h) is (outputsFrom (phaseAt s h) is) ≡ logOf s (reverseAux is h)
-unfolding logAfter logOf outputsFrom phaseAt
+log-aux : (s : Start) (is : List Input) (h : History) → logAfter (logOf s h) is (outputsFrom (phaseAfter s h) is) ≡ logOf s (reverseAux is h)
+unfolding logAfter logOf outputsFrom phaseAfter
 log-aux s [] h = refl
 log-aux s (i ∷ is) h = log-aux s is (i ∷ h)
 
 pub log-forward : (l : Life) → logFrom (l .inputs) (outputs l) ≡ logOf (l .start) (reverse (l .inputs))
-unfolding logFrom outputs logOf phaseAt
+unfolding logFrom outputs logOf phaseAfter
 log-forward l = log-aux (l .start) (l .inputs) []

@@ -2,16 +2,16 @@
 use mathlib.Core.List.{List, [], _∷_, _++_, map, reverse}
 use mathlib.Core.Path.{_≡_, refl, ap, ap₂, _∙_}
 use Rattle.rules.specs.Protocol.{Output, Phase}
-use Rattle.rules.specs.Lives.{Life, outputs, phaseOf}
+use Rattle.rules.specs.Lives.{Life, outputs, endOf}
 use Rattle.rules.specs.Log as Log
 use Rattle.rules.specs.Log.{logOf, executed}
-use Rattle.rules.specs.Claim.{Distinct}
-use Rattle.rules.proofs.Theorem.{demand-3}
+use Rattle.rules.specs.Lists.{Distinct}
+use Rattle.rules.proofs.Theorem.{demands}
 use Rattle.lives.specs.Runs.{CodeLife, lifeOf, logFrom, logIn, executedIn, ClaimOf, CodeClaim}
 use Rattle.lives.proofs.Faithful.{faithful, same-end}
 use Rattle.lives.proofs.Logs.{log-forward}
 
-module _ {C : Type 0} (lifeIn : C → Life) (outputsIn : C → List Output) (endIn : C → Phase) (same : (c : C) → outputsIn c ≡ outputs (lifeIn c)) (stands : (c : C) → endIn c ≡ phaseOf (lifeIn c)) where
+module _ {C : Type 0} (lifeIn : C → Life) (outputsIn : C → List Output) (endIn : C → Phase) (same : (c : C) → outputsIn c ≡ outputs (lifeIn c)) (stands : (c : C) → endIn c ≡ endOf (lifeIn c)) where
   same-log : (c : C) → logIn lifeIn outputsIn endIn c ≡ logOf (lifeIn c .start) (reverse (lifeIn c .inputs))
   same-log c = ap (logFrom (lifeIn c .inputs)) (same c) ∙ log-forward (lifeIn c)
 
@@ -26,8 +26,8 @@ module _ {C : Type 0} (lifeIn : C → Life) (outputsIn : C → List Output) (end
 
   pub claim-of : (cs : List C) → Distinct (map (λ c. lifeIn c .start .bootId) cs) → ClaimOf lifeIn outputsIn endIn cs
   claim-of cs differ =
-      let k = demand-3 (map lifeIn cs) (rw (same-boots cs) differ) in
-      record { same = same; stands = stands; log = same-log; once = rw (same-orders cs) (k .once); claim = k }
+      let k = demands (map lifeIn cs) (rw (same-boots cs) differ) in
+      record { same = same; stands = stands; log = same-log; once = rw (same-orders cs) (k .claim .once); demands = k }
 
 -- of the code by value
 pub demand-3-of-the-code : (cs : List CodeLife) → Distinct (map (λ c. lifeOf c .start .bootId) cs) → CodeClaim cs

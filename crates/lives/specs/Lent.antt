@@ -7,24 +7,24 @@ use Rattle.rules.specs.Lives.{Life}
 use Rattle.start.specs.declared.Stage.the-variants.{Started}
 use Rattle.steps.specs.declared.Answer.{Answer}
 use Rattle.steps.specs.declared.Runtime.{Runtime}
-use Rattle.steps.specs.Runtimes.{phaseIn, outputAt, RuntimeSound, Moves, Shown}
+use Rattle.steps.specs.Runtimes.{phaseIn, outputOfAnswer, RuntimeSound, Moves, Shown}
 use Rattle.lives.specs.Runs.{Run, ClaimOf}
 
 -- a step ---------------------------------------------------------------------------------------------------------------
 
 -- what the function of a call or a reply promises of the runtime that it leaves, and of its answer
-abbrev pub Promised : Runtime → Input → Runtime → Answer → Type 0
-Promised rt i next answer = RuntimeSound rt → Moves next answer (react (phaseIn rt) i)
+abbrev pub LentPromised : Runtime → Input → Runtime → Answer → Type 0
+LentPromised rt i next answer = RuntimeSound rt → Moves next answer (react (phaseIn rt) i)
 
 -- 01's output, by the answer and the runtime that holds what it speaks of
 abbrev pub outputIn : Answer → Runtime → Output
-outputIn answer rt = outputAt answer (rt .starting) (rt .core)
+outputIn answer rt = outputOfAnswer answer (rt .starting) (rt .core)
 
 -- one input: what comes out, and the runtime afterwards; a reading once the start is over (01: "until it ends there is no runtime to read")
-pub data Step : Runtime → Input → Output → Runtime → Type 0 where
-  called : {rt next : Runtime} {c : Call} (answer : Answer) → Promised rt (Calls c) next answer → Step rt (Calls c) (outputIn answer next) next
-  replied : {rt next : Runtime} {r : Reply} (answer : Answer) → Promised rt (Replies r) next answer → Step rt (Replies r) (outputIn answer next) next
-  shown : {rt : Runtime} {q : Reading} {v : Value} → rt .starting .stage ≡ Started → (RuntimeSound rt → Shown rt q v) → Step rt (Reads q) (Shows v) rt
+pub data LentStep : Runtime → Input → Output → Runtime → Type 0 where
+  called : {rt next : Runtime} {c : Call} (answer : Answer) → LentPromised rt (Calls c) next answer → LentStep rt (Calls c) (outputIn answer next) next
+  replied : {rt next : Runtime} {r : Reply} (answer : Answer) → LentPromised rt (Replies r) next answer → LentStep rt (Replies r) (outputIn answer next) next
+  shown : {rt : Runtime} {q : Reading} {v : Value} → rt .starting .stage ≡ Started → (RuntimeSound rt → Shown rt q v) → LentStep rt (Reads q) (Shows v) rt
 
 -- a life ---------------------------------------------------------------------------------------------------------------
 
@@ -38,7 +38,7 @@ pub record LentLife : Type 0 where
   pub inputs : List Input
   pub later : List Output
   pub last : Runtime
-  pub run : Run Step first inputs later last
+  pub run : Run LentStep first inputs later last
 
 -- all that came out: the start's own output, then one for each input
 unfoldable pub outputsOf : LentLife → List Output

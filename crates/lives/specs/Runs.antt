@@ -8,8 +8,9 @@ use Rattle.model.specs.declared.Receipt.{Receipt}
 use Rattle.rules.specs.Protocol.{Call, Reply, Reading, Input, Calls, Replies, Reads, Value, Output, Shows, Phase, read, start as startRule, react}
 use Rattle.rules.specs.Lives as Lives
 use Rattle.rules.specs.Lives.{Life}
-use Rattle.rules.specs.Log.{Log, handed, extended, logOf, executed}
-use Rattle.rules.specs.Claim.{Distinct, Claim}
+use Rattle.rules.specs.Log.{Log, handed, logged, logOf, executed}
+use Rattle.rules.specs.Lists.{Distinct}
+use Rattle.rules.specs.Demands.{Demands}
 use Rattle.machine.specs.declared.Core.{Core}
 use Rattle.machine.specs.declared.Outcome.{Outcome}
 use Rattle.machine.specs.Machine.{bookOf, phaseOf, outputAt, keptAfter, Sound, Gives}
@@ -31,8 +32,8 @@ phaseIn (Begun s) = startPhaseOf s
 phaseIn (Running core kept) = phaseOf core kept
 
 -- what the function of a call or a reply promises of its outcome
-abbrev pub Promised : Core → Input → Outcome → Type 0
-Promised core i o = Sound core → Gives o (λ kept. react (phaseOf core kept) i)
+abbrev pub CodePromised : Core → Input → Outcome → Type 0
+CodePromised core i o = Sound core → Gives o (λ kept. react (phaseOf core kept) i)
 
 -- what the start's functions promise, under the condition of those that ask the most
 abbrev pub StartPromised : Starting → Input → StartOutcome → Type 0
@@ -45,15 +46,15 @@ pub data Leaves : StartOutcome → Standing → Type 0 where
       → ((StartSound (o .starting) × (o .starting .stage ≡ Started)) → Opened (o .starting) core) → Leaves o (Running core [])
 
 -- one input: what comes out, and where the code stands afterwards
-pub data Step : Standing → Input → Output → Standing → Type 0 where
-  called : {core : Core} {kept : List Receipt} {c : Call} (o : Outcome) → Promised core (Calls c) o
-      → Step (Running core kept) (Calls c) (outputAt (o .kind) (o .core)) (Running (o .core) (keptAfter (o .kind) (o .core) kept))
-  replied : {core : Core} {kept : List Receipt} {r : Reply} (o : Outcome) → Promised core (Replies r) o
-      → Step (Running core kept) (Replies r) (outputAt (o .kind) (o .core)) (Running (o .core) (keptAfter (o .kind) (o .core) kept))
+pub data CodeStep : Standing → Input → Output → Standing → Type 0 where
+  called : {core : Core} {kept : List Receipt} {c : Call} (o : Outcome) → CodePromised core (Calls c) o
+      → CodeStep (Running core kept) (Calls c) (outputAt (o .kind) (o .core)) (Running (o .core) (keptAfter (o .kind) (o .core) kept))
+  replied : {core : Core} {kept : List Receipt} {r : Reply} (o : Outcome) → CodePromised core (Replies r) o
+      → CodeStep (Running core kept) (Replies r) (outputAt (o .kind) (o .core)) (Running (o .core) (keptAfter (o .kind) (o .core) kept))
   shown : {core : Core} {kept : List Receipt} {q : Reading} {v : Value} → (Sound core → v ≡ read q (bookOf core kept))
-      → Step (Running core kept) (Reads q) (Shows v) (Running core kept)
+      → CodeStep (Running core kept) (Reads q) (Shows v) (Running core kept)
   starting : {s : Starting} {i : Input} {next : Standing} (o : StartOutcome) → StartPromised s i o → Leaves o next
-      → Step (Begun s) i (startOutputAt (o .kind) (o .starting)) next
+      → CodeStep (Begun s) i (startOutputAt (o .kind) (o .starting)) next
 
 -- a life ---------------------------------------------------------------------------------------------------------------
 
@@ -75,7 +76,7 @@ pub record CodeLife : Type 0 where
   pub inputs : List Input
   pub later : List Output
   pub last : Standing
-  pub run : Run Step first inputs later last
+  pub run : Run CodeStep first inputs later last
 
 -- all that came out: the start's own output, then one for each input
 unfoldable pub outputsOf : CodeLife → List Output
@@ -90,7 +91,7 @@ lifeOf c = record { start = startOf (c .start); inputs = c .inputs }
 unfoldable pub logAfter : Log → List Input → List Output → Log
 logAfter l [] outs = l
 logAfter l (i ∷ is) [] = l
-logAfter l (i ∷ is) (out ∷ outs) = logAfter (extended i out l) is outs
+logAfter l (i ∷ is) (out ∷ outs) = logAfter (logged i out l) is outs
 
 -- the first output is that of the start
 unfoldable pub logFrom : List Input → List Output → Log
@@ -112,13 +113,13 @@ module _ {C : Type 0} (lifeIn : C → Life) (outputsIn : C → List Output) (end
   pub record ClaimOf (cs : List C) : Type 0 where
     -- of every life of the code, also outside the list: what comes out is what the rules say, and where it ends is where they end
     pub same : (c : C) → outputsIn c ≡ Lives.outputs (lifeIn c)
-    pub stands : (c : C) → endIn c ≡ Lives.phaseOf (lifeIn c)
+    pub stands : (c : C) → endIn c ≡ Lives.endOf (lifeIn c)
     -- so its own log, by inputs and outputs alone, is the one that the claim speaks of
     pub log : (c : C) → logIn c ≡ logOf (lifeIn c .start) (reverse (lifeIn c .inputs))
     -- "one order, all eleven fields alike, reaches `execute` at most once in all of them", by the code's own outputs
     pub once : Distinct (executedIn cs)
-    -- and every part of the claim, of these lives as the rules have them
-    pub claim : Claim (map lifeIn cs)
+    -- and all that is claimed, of these lives as the rules have them
+    pub demands : Demands (map lifeIn cs)
 
 abbrev pub CodeClaim : List CodeLife → Type 0
 CodeClaim cs = ClaimOf lifeOf outputsOf (λ c. phaseIn (c .last)) cs

@@ -10,7 +10,8 @@ use Rattle.model.specs.declared.LeaseSlot.{LeaseSlot}
 use Rattle.model.specs.declared.Reason.{Reason}
 use Rattle.model.specs.declared.Receipt.{Receipt}
 use Rattle.model.specs.Records.{noLease, noActive}
-use Rattle.rules.specs.Book.{Book, withLeases, withActive, withEpoch, withState}
+use Rattle.rules.specs.Book.{Book}
+use Rattle.rules.specs.With.{withLeases, withActive, withEpoch, withState}
 use Rattle.rules.specs.Interaction.{Interaction}
 use Rattle.rules.specs.Protocol.{Reaction, proceed}
 use Rattle.rules.specs.Receipts.{bump}

@@ -21,9 +21,10 @@ use Rattle.model.specs.declared.Receipt.{Receipt}
 use Rattle.model.specs.declared.Submission.{Submission}
 use Rattle.model.specs.Reasons.{noReplyAwaited}
 use Rattle.model.specs.Soundness.{axisUsed, sound}
-use Rattle.rules.specs.Admissible.{Mem}
+use Rattle.rules.specs.Lists.{Mem}
 use Rattle.rules.specs.Admission.{axes, firstFailing, acquireChecks, renewChecks, heldAxis, validate}
-use Rattle.rules.specs.Book.{Book, withLastTick}
+use Rattle.rules.specs.Book.{Book}
+use Rattle.rules.specs.With.{withLastTick}
 use Rattle.rules.specs.Interaction.{Returned, Polled, Succeeded, Leased, Refused, Submitted, Interaction, Done, Observe}
 use Rattle.rules.specs.Protocol.{Item, ItemObserve, ItemExecute, ItemFallback, ItemRecord, Output, Hands, Answers, Reminds, Refuses, Phase, Idle, Waiting, OnObserve, OnExecute, OnFallback, OnRecord, Reaction}
 use Rattle.rules.specs.Receipts.{keep, receiptCapacity, event, notSent}

@@ -62,8 +62,8 @@ unfoldable pub distinctIds : List Capability → Bool
 distinctIds [] = true
 distinctIds (c ∷ l) = not (idTaken l (c .id)) && distinctIds l
 
-abbrev pub axes : List ℕ
-axes = 0 ∷ 1 ∷ 2 ∷ 3 ∷ 4 ∷ 5 ∷ 6 ∷ 7 ∷ []
+abbrev pub profileAxes : List ℕ
+profileAxes = 0 ∷ 1 ∷ 2 ∷ 3 ∷ 4 ∷ 5 ∷ 6 ∷ 7 ∷ []
 
 -- what the table is held to: every record is sound, no id stands twice, and which axes are used
 pub record Held : Type 0 where
@@ -71,10 +71,10 @@ pub record Held : Type 0 where
   pub distinct : Bool
   pub used : List Bool
 
-unfoldable pub held : List Capability → Held
-held l = record { sound = all sound l; distinct = distinctIds l; used = map (axisUsed l) axes }
+unfoldable pub heldTo : List Capability → Held
+heldTo l = record { sound = all sound l; distinct = distinctIds l; used = map (axisUsed l) profileAxes }
 
-pub profile-holds : held profile
+pub profile-holds : heldTo profile
     ≡ record { sound = true; distinct = true; used = true ∷ true ∷ false ∷ false ∷ false ∷ false ∷ false ∷ false ∷ [] }
-unfolding held sound conditions every shareNoBit inside isZero verifiable distinctIds
+unfolding heldTo sound conditions every shareNoBit inside isZero verifiable distinctIds
 profile-holds = refl

@@ -18,11 +18,13 @@ use Rattle.model.specs.declared.Receipt.{Receipt}
 use Rattle.model.specs.declared.Replay.{Replay}
 use Rattle.model.specs.declared.Submission.{Submission}
 use Rattle.rules.specs.Admission.{firstFailing, ready, admission, orderCapability, leaseFor, orderLease, Admits, verdict, validate, validUntil, withId}
-use Rattle.rules.specs.Book.{Book, withReplay, withLeases, withActive, withInvalidCount}
+use Rattle.rules.specs.Book.{Book}
+use Rattle.rules.specs.With.{withReplay, withLeases, withActive, withInvalidCount}
 use Rattle.rules.specs.Interaction.{Submitted, Done}
 use Rattle.rules.specs.Protocol.{ItemObserve, Hands, Waiting, OnObserve, Reaction, proceed}
 use Rattle.rules.specs.Receipts.{top, bumpTo, Progress, notSent, orderReceipt}
 use Rattle.rules.specs.Rules.{recordReceipt, reject, original, storm, complete, activeUntil, withSequence, replayCapacity, streamEnd, consumed, dispatch, admit}
+use Rattle.rules.proofs.Records.{with-named}
 use Rattle.rules.proofs.Admission.{admitted-exactly}
 use Rattle.machine.specs.declared.Core.{Core}
 use Rattle.machine.specs.Machine.{leaseIf, leaseIn, bookOf, capabilitiesOf, Checked}
@@ -70,8 +72,9 @@ unfolding bookOf orderCapability orderLease leaseFor validate verdict validUntil
 admitting core kept s f d checked blank e passed =
     let b = bookOf core kept in
     let a = admitted-exactly s b .0 passed in
-    let c = capability-of f _ (a .capability) e (a .known) in
-    let known : orderCapability s b ≡ some (f .capability) = a .known ∙ ap some (sym (c .1)) in
+    let found = with-named (a .known) in
+    let c = capability-of f _ (a .capability) e found in
+    let known : orderCapability s b ≡ some (f .capability) = found ∙ ap some (sym (c .1)) in
     let slot = getD (core .leases) (f .capability .resource) d in
     let leased : leaseIn slot ≡ some (a .lease) =
     sym (held-at leaseIn d blank (core .leases) (f .capability .resource)) ∙ ap (λ (x : Capability). getD (b .leases) (x .resource) none) (c .1) ∙ a .leased in

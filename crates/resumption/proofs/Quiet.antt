@@ -14,7 +14,8 @@ use Rattle.model.specs.declared.LeaseSlot.{LeaseSlot}
 use Rattle.model.specs.declared.Reason.{Reason}
 use Rattle.model.proofs.Tests.{and-both}
 use Rattle.rules.specs.Admission.{axes, holdsOf, isArmed, isSome, isStale}
-use Rattle.rules.specs.Book.{Book, leaseAt, activeAt, withLastTick}
+use Rattle.rules.specs.Book.{Book, leaseAt, activeAt}
+use Rattle.rules.specs.With.{withLastTick}
 use Rattle.rules.specs.Interaction.{Interaction}
 use Rattle.rules.specs.Rules.{due, exhausted, fallbackIf, expiries, watchdog, staleness, supervise, tick}
 use Rattle.machine.specs.Axes.{axesFrom}

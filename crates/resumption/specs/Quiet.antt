@@ -11,7 +11,8 @@ use Rattle.model.specs.declared.Active.{Active}
 use Rattle.model.specs.declared.Lease.{Lease}
 use Rattle.model.specs.declared.Receipt.{Receipt}
 use Rattle.rules.specs.Admission.{axes, isArmed, isSome, isStale}
-use Rattle.rules.specs.Book.{Book, withLastTick}
+use Rattle.rules.specs.Book.{Book}
+use Rattle.rules.specs.With.{withLastTick}
 use Rattle.rules.specs.Rules.{due, exhausted, refreshState}
 use Rattle.machine.specs.declared.Core.{Core}
 use Rattle.machine.specs.declared.Pending.{Pending}

@@ -49,7 +49,7 @@ ghost use lib.Dec.{leb};
 ghost use Rattle.model.specs.declared.Reason.the-variants.{Driver};
 ghost use Rattle.model.specs.declared.Receipt.{Receipt};
 ghost use Rattle.rules.specs.Admission.{axes, holdsOf};
-ghost use Rattle.rules.specs.Book.{withLastTick};
+ghost use Rattle.rules.specs.With.{withLastTick};
 ghost use Rattle.rules.specs.Protocol.{proceed};
 ghost use Rattle.rules.specs.Rules.{fallbackOrTrip, staleness, expiries, supervise as superviseRule, tick as tickRule};
 ghost use Rattle.machine.specs.declared.AfterFallback.the-variants.{Trip, Expiry, Precondition, Cancel};

@@ -24,7 +24,9 @@ use Rattle.model.proofs.Meaning.{contains-means, means-contains, permits-means,
 use Rattle.rules.proofs.Basics.{neither}
 use Rattle.rules.specs.Book.{Book, leaseAt}
 use Rattle.rules.specs.Admission.{Check, firstFailing, holdsOf, isSome, isEstopped, isFaulted, isStale, ready, badDuration, orderCapability, leaseFor, orderLease, hasBit, authorizes, wellFormed, isEntry, findEntry, replayed, validUntil, allContain, admission}
-use Rattle.rules.specs.Admissible.{Mem, Inside, Admissible}
+use Rattle.rules.specs.Lists.{Mem}
+use Rattle.rules.proofs.Records.{named-with, with-named}
+use Rattle.rules.specs.Admissible.{Inside, Admissible}
 
 -- ---- a list of checks
 
@@ -216,7 +218,7 @@ forming s b f =
     (and-when (fits-duration _ _ (f .validity .0) (f .validity .1)) (sym (lt-ltb _ _ (f .window)))))))
 
 pub holds-admissible : (s : Submission) (b : Book) → AllHold (admission s b) → Admissible s b
-unfolding admission ready isStale validUntil replayed
+unfolding admission ready isStale validUntil replayed orderCapability
 holds-admissible s b h =
     let known = some-of (orderCapability s b) (h .1 .1 .1 .1 .1 .1 .0) in
     let held = held-of (orderLease s b) (authorizes s) (h .1 .1 .1 .1 .1 .1 .1 .0) in
@@ -233,7 +235,7 @@ holds-admissible s b h =
       fresh = leb-false _ _ (not-true _ (h .1 .1 .1 .0));
       boot = eqb-true _ _ (h .1 .1 .1 .1 .0);
       principal = (nonzero _ (who .0), eqb-true _ _ (who .1));
-      known = known .1;
+      known = named-with _ (b .capabilities) _ (known .1);
       leased = sym (lease-on s b (known .0) (known .1)) ∙ held .1;
       authority = authorized s (held .0) (held-at (authorizes s) (held .1) (h .1 .1 .1 .1 .1 .1 .1 .0));
       numbered = form .numbered;
@@ -251,9 +253,10 @@ holds-admissible s b h =
     }
 
 pub admissible-holds : (s : Submission) (b : Book) → Admissible s b → AllHold (admission s b)
-unfolding admission ready isStale validUntil replayed
+unfolding admission ready isStale validUntil replayed orderCapability
 admissible-holds s b a =
-    let held = lease-on s b (a .capability) (a .known) ∙ a .leased in
+    let known = with-named (a .known) in
+    let held = lease-on s b (a .capability) known ∙ a .leased in
     let form : Formed s b = record { numbered = a .numbered; received = a .received; validity = a .validity; window = a .window } in (
       estopped-not _ (a .not-estopped),
       (
@@ -267,7 +270,7 @@ admissible-holds s b a =
               (
                 sym (and-when (zero-not _ (a .principal .0)) (sym (eq-eqb _ _ (a .principal .1)))),
                 (
-                  is-some (a .known),
+                  is-some known,
                   (
                     at-held (authorizes s) held (authorizing s (a .lease) (a .authority .0) (a .authority .1 .0) (a .authority .1 .1)),
                     (
@@ -285,8 +288,8 @@ admissible-holds s b a =
                                 (
                                   eq-eqb _ _ (a .epoch),
                                   (
-                                    sym (and-when (at-held _ (a .known) (inside-contained _ _ (a .bounds .0))) (sym (at-held _ held (inside-contained _ _ (a .bounds .1))))),
-                                    (at-held _ (a .known) (means-permits _ _ (a .flags .0) (a .flags .1)), tt),
+                                    sym (and-when (at-held _ known (inside-contained _ _ (a .bounds .0))) (sym (at-held _ held (inside-contained _ _ (a .bounds .1))))),
+                                    (at-held _ known (means-permits _ _ (a .flags .0) (a .flags .1)), tt),
                                   ),
                                 ),
                               ),

@@ -8,13 +8,12 @@ use native.Mathlib.Omega.{arith}
 use borrow.Author.Tests.{eqb-true, eqb-false, eq-eqb}
 use lib.Dec.{eqb}
 use Rattle.model.specs.declared.Capability.{Capability}
-use Rattle.model.specs.Soundness.{axisUsed, sound}
-use Rattle.model.proofs.Meaning.{sound-axis}
+use Rattle.model.specs.Soundness.{axisUsed}
 use Rattle.rules.specs.Admission.{axes}
-use Rattle.rules.specs.Admissible.{Mem}
+use Rattle.rules.specs.Lists.{Mem}
 use Rattle.rules.specs.Rules.{select, usedAxes}
 use Rattle.rules.specs.Protocol.{Start}
-use Rattle.rules.specs.Claim.{SoundStart}
+use Rattle.rules.specs.SoundStart.{SoundCapability, SoundStart}
 
 abbrev upFrom : ℕ → ℕ → List ℕ
 upFrom i zero = []
@@ -57,14 +56,14 @@ mem-used cs i e m = mem-select (axisUsed cs) axes i e m
 module _ (s : Start) (h : SoundStart s) where
   -- a used axis is one of the eight, since a sound record names it
   pub used-low : (axis : ℕ) → axisUsed (s .capabilities) axis ≡ true → axis < 8
-  used-low axis = go (s .capabilities) (h .each)
+  used-low axis = go (s .capabilities) (h .records .each)
     where
-      go : (cs : List Capability) → ((c : Capability) → Mem c cs → sound c ≡ true) → axisUsed cs axis ≡ true → axis < 8
+      go : (cs : List Capability) → ((c : Capability) → Mem c cs → SoundCapability c) → axisUsed cs axis ≡ true → axis < 8
       go [] each e = absurd (false≢true e)
       go (c ∷ cs) each e = first (eqb (c .resource) axis) refl e (go cs (λ d m. each d (inr m)))
         where
           first : (t : Bool) → eqb (c .resource) axis ≡ t → (t || axisUsed cs axis) ≡ true → (axisUsed cs axis ≡ true → axis < 8) → axis < 8
-          first true q e rest = omega (arith, eqb-true (c .resource) axis q, sound-axis c (each c (inl refl)))
+          first true q e rest = omega (arith, eqb-true (c .resource) axis q, each c (inl refl) .axis)
           first false q e rest = rest e
 
   -- and there is one

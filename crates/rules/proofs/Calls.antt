@@ -26,16 +26,19 @@ use Rattle.model.specs.declared.Submission.{Submission}
 use Rattle.model.specs.Reasons.{number}
 use Rattle.model.specs.Soundness.{axisUsed}
 use Rattle.model.proofs.Tests.{and-both}
-use Rattle.rules.specs.Book.{Book, leaseAt, withLeases, withActive, withNextLease, withEpoch, withFlags, withState, withInvalidCount, withEstopSeen}
+use Rattle.rules.specs.Book.{Book, leaseAt}
+use Rattle.rules.specs.With.{withLeases, withActive, withNextLease, withEpoch, withFlags, withState, withInvalidCount, withEstopSeen}
 use Rattle.rules.specs.Receipts.{kept, numbered, event, Progress, notSent, orderReceipt}
 use Rattle.rules.specs.Interaction.{Answer, Returned, Polled, Succeeded, Leased as LeasedTo, Refused, Submitted, Done, Observe}
 use Rattle.rules.specs.Admission.{firstFailing, isArmed, isEstopped, isFaulted, isStale, ready, isFree, validRequest, axes, acquireChecks, heldAxis, leaseOn, heldLease, withId, orderCapability, orderLease, verdict, validate, admission}
-use Rattle.rules.specs.Admissible.{Mem}
+use Rattle.rules.specs.Lists.{Mem}
 use Rattle.rules.specs.Rules.{usedAxes, bumpEpoch, recordReceipt, refreshState, trip, exhausted, meetsEstop, masked, emergencyStop, pollEstop, recovered, recoveries, recover, recoverLocal, newLease, granted, leased, grant, acquire, extended, extend, renewed, renew, canceled, cancel, storm, reject, consumed, streamEnd, fail, complete, verified, verify, dispatch, admit, submit}
 use Rattle.rules.specs.Protocol.{Call, Tick, UpdateState, EmergencyStop, PollEstop, RecoverLocal, Acquire, Renew, Cancel, Submit, Observed, Executed, Recorded, ItemObserve, ItemExecute, Start, begin}
-use Rattle.rules.specs.Log.{History, phaseAt, Took, Replied, Handed, Log, logOf, callOf, submissionOf, reaching, executed, nextNumber, observing, dispatching, Admitted, admittedAs, admitting, admissions, entryOf, highest, isControl, isGrant, live, holding, seenRaise, stops, updated}
+use Rattle.rules.specs.Log.{History, phaseAfter, Took, Replied, Handed, Log, logOf, callOf, submissionIn, reaching, executed, nextNumber, observing, dispatching, Admitted, admittedAs, admitting, admissions, entryOf, highest, isControl, isGrant, live, holding}
+use Rattle.rules.specs.Epoch.{seenRaise, stops, updated}
 use Rattle.rules.specs.Claim.{Leased, Observing, tenancyIn}
 use Rattle.rules.specs.StopFacts.{Reported}
+use Rattle.rules.proofs.Records.{named-with, with-named}
 use Rattle.rules.proofs.Admission.{none-fails, admitted-exactly, lease-on}
 use Rattle.rules.proofs.Axes.{low-axis, mem-reverse, used-low}
 use Rattle.rules.proofs.Safe.{Safe, SafePhase, always}
@@ -283,7 +286,7 @@ module _ (s : Start) where
   unfolding orderCapability
   admitting-of o c x l b h e known found =
       let a = admitted-exactly o b .0 e in
-      let same-c : a .capability ≡ c = Option·some-injective _ _ (sym (a .known) ∙ known) in
+      let same-c : a .capability ≡ c = Option·some-injective _ _ (sym (with-named (a .known)) ∙ known) in
       let leased : leaseAt b (c .resource) ≡ some x = sym (lease-on o b c known) ∙ found in
       let same-x : a .lease ≡ x =
       Option·some-injective _ _ (sym (a .leased) ∙ ap (λ (d : Capability). leaseAt b (d .resource)) same-c ∙ leased) in
@@ -314,7 +317,7 @@ module _ (s : Start) where
   leased-by o c x l b a h settled l′ same =
       record {
         capability = c;
-        known = subst (λ cs. withId (o .action .capability) cs ≡ some c) (h .0 .0 .0 .capabilities) (a .known);
+        known = named-with _ (s .capabilities) c (subst (λ cs. withId (o .action .capability) cs ≡ some c) (h .0 .0 .0 .capabilities) (a .known));
         tenancy = tenancyIn x;
         stands = same ∙ h .0 .0 .0 .leasing .stands (c .resource) ∙ ap held (a .passed .leased);
         lease = a .passed .lease;
@@ -349,7 +352,7 @@ module _ (s : Start) where
         submission = o;
         call = h .0 .1 .0;
         capability = c;
-        known = subst (λ cs. withId (o .action .capability) cs ≡ some c) (h .0 .0 .0 .capabilities) (a .known);
+        known = named-with _ (s .capabilities) c (subst (λ cs. withId (o .action .capability) cs ≡ some c) (h .0 .0 .0 .capabilities) (a .known));
         own = refl;
         first = λ e.
             record {
@@ -371,14 +374,14 @@ module _ (s : Start) where
   inv-executing o c x before p l b sent h seen known true =
       let l₁ : Log = Replied (Executed true) ∷ l in
       let carry : Observing s l₁ (c .resource) =
-      record { submission = o; call = h .0 .1 .0; capability = c; known = known; own = refl; first = λ e. absurd (false≢true (sym e ∙ seen)) } in
+      record { submission = o; call = h .0 .1 .0; capability = c; known = named-with _ (s .capabilities) c known; own = refl; first = λ e. absurd (false≢true (sym e ∙ seen)) } in
       let h₁ = inv-observed s (c .resource) l₁ b seen carry (inv-replied s l b (h .0 .0) (Executed true)) in
       (h₁, λ v. inv-verify o c x before _ b v ((inv-replied s _ b h₁ (Observed v), (h .0 .1 .0, refl)), h .1))
 
   inv-dispatch : (o : Submission) (c : Capability) (x : Lease) (l : Log) (b : Book) → Admitting o c x b → InCall s (Submit o) l b
       → Guarded (Settled (o .now) (reverse axes)) b → (seen : Option Observation) → I s (Handed (ItemObserve (c .resource)) ∷ l) (consumed c x o b)
       → Safe (I s) (End s) (Replied (Observed seen) ∷ (Handed (ItemObserve (c .resource)) ∷ l)) (dispatch c (streamEnd x o) o (consumed c x o b) seen)
-  unfolding dispatch callOf updated observing dispatching executed reaching admissions admitting submissionOf live holding
+  unfolding dispatch callOf updated observing dispatching executed reaching admissions admitting submissionIn live holding
   inv-dispatch o c x l b a h settled none h₁ =
       inv-fail o c Reason.Driver notSent _ (consumed c x o b) ((inv-replied s _ (consumed c x o b) h₁ (Observed none), (h .0 .1 .0, refl)), h .1 .0)
   inv-dispatch o c x l b a h settled (some seen) h₁ =
@@ -430,5 +433,5 @@ module _ (s : Start) where
       inv-tick s (Submit o) (o .now) l b _ refl refl (λ n. refl) h
       (λ l′ b′ h′ settled. inv-verdict o _ _ _ l′ b′ refl refl refl h′ settled)
 
-  pub invariant : (h : History) → SafePhase s (I s) (I s) (End s) (logOf s h) (phaseAt s h)
+  pub invariant : (h : History) → SafePhase s (I s) (I s) (End s) (logOf s h) (phaseAfter s h)
   invariant h = always s (I s) (I s) (End s) (λ l b a k. k) (inv-opening s) inv-call h

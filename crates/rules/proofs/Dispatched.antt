@@ -19,20 +19,23 @@ use Rattle.model.specs.declared.Reason.{Reason}
 use Rattle.model.specs.declared.Renewal.{Renewal}
 use Rattle.model.specs.declared.Submission.{Submission}
 use Rattle.model.specs.Words.{shareNoBit}
-use Rattle.rules.specs.Book.{Book, leaseAt, withLeases, withReplay}
+use Rattle.rules.specs.Book.{Book, leaseAt}
+use Rattle.rules.specs.With.{withLeases, withReplay}
 use Rattle.rules.specs.Receipts.{Progress}
 use Rattle.rules.specs.Interaction.{Answer, Refused, Succeeded, Done, Observe}
 use Rattle.rules.specs.Admission.{Check, firstFailing, ready, withId, orderCapability, leaseFor, orderLease, admission, Admits, verdict, validate}
 use Rattle.rules.specs.Admissible.{Inside, Admissible}
 use Rattle.rules.specs.Rules.{refreshState, trip, meetsEstop, updateState, recovered, recoverLocal, leased, grant, acquire, extend, renewed, renew, canceled, cancel, withSequence, consumed, fail, streamEnd, complete, verified, verify, dispatch, admit, submit}
 use Rattle.rules.specs.Protocol.{Call, Tick, UpdateState, EmergencyStop, PollEstop, RecoverLocal, Acquire, Renew, Cancel, Submit, Observed, Executed, ItemObserve, ItemExecute, ItemFallback, ItemRecord, Hands, Start, Phase, Starting, Gone, Idle, Waiting, waitBook, bookIn, opening, begin}
-use Rattle.rules.specs.Log.{History, phaseAt, outputAt, Took, Replied, Handed, Ended, Log, handed, logOf, callOf, Tenancy, live}
+use Rattle.rules.specs.Log.{History, phaseAfter, outputAfter, Took, Replied, Handed, Ended, Log, handed, logOf, callOf, Tenancy, live}
 use Rattle.rules.specs.Claim.{Carried, tenancyIn}
 use Rattle.rules.specs.StopFacts.{Unready, Dispatched}
+use Rattle.rules.proofs.Records.{with-named, named-with}
 use Rattle.rules.proofs.Admission.{admitted-exactly}
 use Rattle.rules.proofs.Safe.{Safe, Plain, SafePhase, at-wait, always}
 use Rattle.rules.proofs.Keeps.{at-set}
-use Rattle.rules.proofs.Once.{holds, newest, only-submissions, live-lease, book-facts}
+use Rattle.rules.proofs.Turns.{newest}
+use Rattle.rules.proofs.Once.{holds, only-submissions, live-lease, book-facts}
 use Rattle.rules.proofs.StateFacts.{state-facts}
 use Rattle.rules.proofs.Walks.{Kept, walk-record, walk-fallback, walk-trip, walk-tick, walk-sense, walk-stop, walk-poll, walk-recover, walk-reject}
 use Rattle.rules.proofs.Stopped.{fails-unready, Quiet}
@@ -187,11 +190,11 @@ module _ (c : Call) where
 
       sent-admit : (f : Option Reason) (l : Log) (b : Book) → Within l b → firstFailing (admission o b) ≡ f
           → Safe AtExecute Ends l (admit (verdict f (orderCapability o b) (orderLease o b)) o b)
-      unfolding admit verdict admission orderLease leaseFor
+      unfolding admit verdict admission orderCapability orderLease leaseFor
       sent-admit (some reason) l b h e = walk-reject AtExecute Ends Within within reason o l b h
       sent-admit none l b h e =
           let a = admitted-exactly o b .0 e in
-          rw (a .known, a .leased) (sent-admitted l b h a (is-ready (o .now) b _ e))
+          rw (with-named (a .known), a .leased) (sent-admitted l b h a (is-ready (o .now) b _ e))
 
 -- ---- every history
 
@@ -217,7 +220,7 @@ sent-call l (Submit o) b h =
 abbrev Holds : Start → Log → Phase → Type 0
 Holds s l p = SafePhase s AtExecute AtExecute Ends l p
 
-always-sent : (s : Start) (h : History) → Holds s (logOf s h) (phaseAt s h)
+always-sent : (s : Start) (h : History) → Holds s (logOf s h) (phaseAfter s h)
 always-sent s h =
     always s AtExecute AtExecute Ends (λ l b a k. tt) (λ l plain e. quiet-at l (opening s) (plain-quiet l plain)) sent-call h
 
@@ -236,19 +239,19 @@ readable s l (Waiting w) h = inr (waitBook w, refl, at-wait AtExecute Ends l w h
 
 record Executing (s : Start) (h : History) : Type 0 where
   book : Book
-  shown : bookIn (phaseAt s h) ≡ some book
+  shown : bookIn (phaseAfter s h) ≡ some book
   order : Submission
   call : callOf (logOf s h) ≡ some (Submit order)
   sent : Sent order book
 
-executing : (s : Start) (h : History) (c : ℕ) (ps : List ℤ) → outputAt s h ≡ Hands (ItemExecute c ps) → Executing s h
+executing : (s : Start) (h : History) (c : ℕ) (ps : List ℤ) → outputAfter s h ≡ Hands (ItemExecute c ps) → Executing s h
 unfolding callOf handed
-executing s h c ps e = go (readable s (logOf s h) (phaseAt s h) (always-sent s h))
+executing s h c ps e = go (readable s (logOf s h) (phaseAfter s h) (always-sent s h))
   where
     n : (l : Log) × (logOf s h ≡ Handed (ItemExecute c ps) ∷ l)
     n = newest s h (Handed (ItemExecute c ps)) (ap handed e)
 
-    go : Readable (logOf s h) (phaseAt s h) → Executing s h
+    go : Readable (logOf s h) (phaseAfter s h) → Executing s h
     go (inl plain) = absurd (subst Plain (n .1) plain)
     go (inr k) =
         let x = subst (λ l. AtExecute l (k .0)) (n .1) (k .2) in
@@ -267,14 +270,14 @@ meets : (flags : ℕ) (c : Config) → bitAnd flags (c .«estop_mask») ≢ 0 �
 unfolding meetsEstop shareNoBit
 meets flags c n = rw (ne-eqb (bitAnd flags (c .«estop_mask»)) 0 n)
 
-module _ (s : Start) (h : History) (c : ℕ) (ps : List ℤ) (out : outputAt s h ≡ Hands (ItemExecute c ps)) (b : Book)
-    (shows : bookIn (phaseAt s h) ≡ some b) (k : Carried (logOf s h) c ps) where
+module _ (s : Start) (h : History) (c : ℕ) (ps : List ℤ) (out : outputAfter s h ≡ Hands (ItemExecute c ps)) (b : Book)
+    (shows : bookIn (phaseAfter s h) ≡ some b) (k : Carried (logOf s h) c ps) where
   -- the lease that stands as the item is handed out has not expired: it is the live one
   unexpired-at : (y : Capability) (x : Lease) → withId (k .submission .action .capability) (s .capabilities) ≡ some y
       → leaseAt b (y .resource) ≡ some x → k .submission .now < x .«expires_at»
   unexpired-at y x known leased =
       let l = live-lease s h c ps out k in
-      let same : l .capability ≡ y = Option·some-injective _ _ (sym (l .known) ∙ known) in
+      let same : l .capability ≡ y = Option·some-injective _ _ (sym (with-named (l .known)) ∙ known) in
       let stands = ap (λ (z : Capability). live (z .resource) (logOf s h)) same ∙ book-facts s h b shows .standing (y .resource) x leased in
       let tenancy : l .tenancy ≡ tenancyIn x = Option·some-injective _ _ (sym (l .stands) ∙ stands) in
       subst (λ (z : Tenancy). k .submission .now < z .expires) tenancy (l .unexpired)
@@ -296,7 +299,7 @@ module _ (s : Start) (h : History) (c : ℕ) (ps : List ℤ) (out : outputAt s h
       let x = withSequence (k .submission .action .sequence) (a .lease) in
       let base = holds s h b shows .0 in
       let caps : d .book .capabilities ≡ s .capabilities = sym (ap (λ (y : Book). y .capabilities) (d .shown)) ∙ base .capabilities in
-      let known = subst (λ cs. withId (k .submission .action .capability) cs ≡ some (a .capability)) caps (a .known) in
+      let known = subst (λ cs. withId (k .submission .action .capability) cs ≡ some (a .capability)) caps (with-named (a .known)) in
       let leased : leaseAt b (a .capability .resource) ≡ some x =
       ap (λ (y : Book). leaseAt y (a .capability .resource)) (d .shown)
       ∙ lease-shown (k .submission) (a .capability) (a .lease) (d .book) (a .leased) in
@@ -306,7 +309,7 @@ module _ (s : Start) (h : History) (c : ℕ) (ps : List ℤ) (out : outputAt s h
         carried = k;
         ready = ready;
         capability = a .capability;
-        known = ap (λ n. withId n (s .capabilities)) (k .capability) ∙ known;
+        known = named-with c (s .capabilities) (a .capability) (ap (λ n. withId n (s .capabilities)) (k .capability) ∙ known);
         lease = x;
         leased = leased;
         principal = a .principal .0;
@@ -328,8 +331,8 @@ module _ (s : Start) (h : History) (c : ℕ) (ps : List ℤ) (out : outputAt s h
 submit-same : {a b : Submission} → some (Submit a) ≡ some (Submit b) → a ≡ b
 submit-same e = cc
 
-pub dispatch-admissible : (s : Start) (h : History) (c : ℕ) (ps : List ℤ) → outputAt s h ≡ Hands (ItemExecute c ps)
-    → (b : Book) × (bookIn (phaseAt s h) ≡ some b) × Dispatched s (logOf s h) b c ps
+pub dispatch-admissible : (s : Start) (h : History) (c : ℕ) (ps : List ℤ) → outputAfter s h ≡ Hands (ItemExecute c ps)
+    → (b : Book) × (bookIn (phaseAfter s h) ≡ some b) × Dispatched s (logOf s h) b c ps
 dispatch-admissible s h c ps e =
     let a = executing s h c ps e in
     let k = only-submissions s h c ps e in

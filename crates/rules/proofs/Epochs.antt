@@ -10,12 +10,14 @@ use lib.Bits.{bitOr}
 use lib.Dec.{ltb, eqb}
 use Rattle.model.specs.declared.Reason.{Reason}
 use Rattle.model.specs.declared.Receipt.{Receipt}
-use Rattle.rules.specs.Book.{Book, withLeases, withActive, withEpoch}
+use Rattle.rules.specs.Book.{Book}
+use Rattle.rules.specs.With.{withLeases, withActive, withEpoch}
 use Rattle.rules.specs.Receipts.{top, bumpTo, bump}
 use Rattle.rules.specs.Admission.{isSome}
 use Rattle.rules.specs.Rules.{bumpEpoch, cleared}
 use Rattle.rules.specs.Protocol.{Call, UpdateState, ItemFallback, ItemRecord, Start}
-use Rattle.rules.specs.Log.{Event, Took, Handed, Log, callOf, isGrant, seenRaise, stops, fallsFor, inForce, updated, flagsOf, newFlagsAt, bumpsAt, oneMoreIf, bumps}
+use Rattle.rules.specs.Log.{Event, Took, Handed, Log, callOf, isGrant}
+use Rattle.rules.specs.Epoch.{seenRaise, stops, fallsFor, inForce, updated, flagsOf, newFlagsAt, bumpsAt, oneMoreIf, bumps}
 
 -- `F` are the flags, `S` is the raise number seen, and there were `B` bumps
 pub record Epochs (F S B flags seen epoch : ℕ) : Type 0 where

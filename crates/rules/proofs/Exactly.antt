@@ -1,13 +1,12 @@
 -- When a submission is admitted, and when it reaches execute: the parts `admitted` and `exactly` of demand 3. A submission is a tick,
 -- which hands out neither observe nor execute, followed by the admission in the book that the tick leaves. Assumes nothing.
 use Prim.Native.Nat.{ℕ}
-use mathlib.Core.Bool.{Bool, true, false, cond, _&&_, false≢true}
-use mathlib.Core.List.{List, [], _∷_, _++_}
+use mathlib.Core.Bool.{_&&_, false≢true}
+use mathlib.Core.List.{List, _∷_, _++_, append-assoc}
 use mathlib.Core.Logic.{inl, inr, _↔_}
-use mathlib.Core.Option.{Option, some, none, Option·none-ne-some}
-use mathlib.Core.Path.{_≡_, refl}
-use borrow.Author.Tests.{eqb-true}
-use lib.Dec.{leb, eqb}
+use mathlib.Core.Option.{Option, some, none}
+use mathlib.Core.Path.{_≡_, refl, ap, _∙_}
+use lib.Dec.{leb}
 use lib.IntN.{ℤ}
 use Rattle.model.specs.declared.Capability.{Capability}
 use Rattle.model.specs.declared.Lease.{Lease}
@@ -18,42 +17,62 @@ use Rattle.model.specs.declared.Receipt.{Receipt}
 use Rattle.model.specs.declared.Submission.{Submission}
 use Rattle.rules.specs.Book.{Book}
 use Rattle.rules.specs.Receipts.{Progress}
-use Rattle.rules.specs.Interaction.{Answer, Returned, Interaction, Done}
-use Rattle.rules.specs.Admission.{firstFailing, isArmed, withId, orderCapability, leaseFor, orderLease, admission, Verdict, Admits, Rejects, verdict, validate}
-use Rattle.rules.specs.Admissible.{Mem, Admissible}
+use Rattle.rules.specs.Interaction.{Answer, Returned, Submitted, Interaction, Done}
+use Rattle.rules.specs.Admission.{firstFailing, isArmed, orderCapability, leaseFor, orderLease, admission, Verdict, Admits, Rejects, verdict, validate}
+use Rattle.rules.specs.Lists.{Mem}
+use Rattle.rules.specs.Admissible.{Admissible}
 use Rattle.rules.specs.Rules.{recordReceipt, tick, storm, reject, fail, dispatch, admit, submit}
-use Rattle.rules.specs.Protocol.{Submit, Reply, Observed, Item, ItemObserve, ItemExecute, Start, begin}
+use Rattle.rules.specs.Protocol.{Submit, Reply, Observed, Item, ItemObserve, ItemExecute, ItemFallback, ItemRecord, Start, begin}
 use Rattle.rules.specs.Log.{History, logOf, bookBefore, Exchange, current}
-use Rattle.rules.specs.Claim.{observed, Runs, here, then, Passes, Clears}
+use Rattle.rules.specs.Way.{observed, Runs, here, then}
+use Rattle.rules.specs.Claim.{Passes, Clears}
+use Rattle.rules.proofs.Records.{with-named}
 use Rattle.rules.proofs.Admission.{admitted-exactly}
-use Rattle.rules.proofs.Trees.{Follows, ends, records, either, follows-trip, follows-tick, itemsAt, first-item, Driven, Past, past, Rest, rest, Ended, quiet}
+use Rattle.rules.proofs.Trees.{Follows, ends, records, OfFallback, either, follows-trip, itemsAt, first-item, Foreign, handed, Past, past, Rest, rest, Ended, quiet, Then, tick-then}
 use Rattle.rules.proofs.InHand.{Ran, ran}
 
 -- ---- a submission is its tick, followed by the admission
 
 abbrev Admission : Submission → Book → Answer → Interaction → Type 0
-Admission o b a u = (a ≡ Returned) × (u ≡ admit (validate o b) o b)
+Admission o = Then (λ b. admit (validate o b) o b)
 
-submission : (o : Submission) (b : Book) → Follows (Admission o) (tick (o .now) b (λ b. Done b Returned)) (begin (Submit o) b)
+submission : (o : Submission) (b : Book) → Follows OfFallback (Admission o) (tick (o .now) b (λ b. Done b Returned)) (begin (Submit o) b)
 unfolding begin submit
-submission o b = follows-tick (o .now) (λ b. ends (refl, refl)) b
+submission o b = tick-then (o .now) _ b
 
 -- ---- what the admission hands out
 
-quiet-storm : (now : ℕ) (r : Receipt) (b : Book) → Follows Ended (storm now r b) (storm now r b)
+-- neither observe nor execute; receipts and answer are any
+abbrev AnyReceipt : Receipt → Type 0
+AnyReceipt r = Unit
+
+abbrev Quiet : Interaction → Type 0
+Quiet t = Follows AnyReceipt (Ended (λ a. Unit)) t t
+
+-- the items that an admission brings
+abbrev Driven : Item → Type 0
+Driven = Foreign AnyReceipt
+
+driven : (i : Item) → Driven i → Foreign OfFallback i
+driven (ItemObserve axis) d = tt
+driven (ItemExecute c p) d = tt
+driven (ItemFallback axis r) d = d
+driven (ItemRecord r) d = λ e. d tt
+
+pub quiet-storm : {Q : Receipt → Type 0} {P : Answer → Type 0} → ((r : Receipt) → OfFallback r → Q r) → (now : ℕ) (r : Receipt) (b : Book)
+    → P (Submitted r) → Follows Q (Ended P) (storm now r b) (storm now r b)
 unfolding storm
-quiet-storm now r b =
+quiet-storm own now r b p =
     either (leb (b .config .«invalid_limit») (b .invalidCount) && isArmed (b .state))
-    (follows-trip now (λ b. ends refl) Reason.InvalidStorm b) (ends refl)
+    (follows-trip own now (λ b. ends (refl, p)) Reason.InvalidStorm b) (ends (refl, p))
 
-quiet-reject : (reason : Reason) (o : Submission) (b : Book) → Follows Ended (reject reason o b) (reject reason o b)
+quiet-reject : (reason : Reason) (o : Submission) (b : Book) → Quiet (reject reason o b)
 unfolding reject recordReceipt
-quiet-reject reason o b = records (quiet-storm (o .now) _ _)
+quiet-reject reason o b = records tt (quiet-storm (λ r e. tt) (o .now) _ _ tt)
 
-quiet-fail : (c : Capability) (reason : Reason) (p : Progress) (o : Submission) (b : Book)
-    → Follows Ended (fail c reason p o b) (fail c reason p o b)
+quiet-fail : (c : Capability) (reason : Reason) (p : Progress) (o : Submission) (b : Book) → Quiet (fail c reason p o b)
 unfolding fail recordReceipt
-quiet-fail c reason p o b = records (follows-trip (o .now) (λ b. ends refl) reason _)
+quiet-fail c reason p o b = records tt (follows-trip (λ r e. tt) (o .now) (λ b. ends (refl, tt)) reason _)
 
 -- observe or execute only if every check holds
 checked : (o : Submission) (b : Book) {v : Interaction} {rs : List Reply} {is : List Item} (i : Item) → Driven i
@@ -78,16 +97,6 @@ seen-first (Admits y l) o b c p (then {rs = rs} (observed {o = some seen}) w) m 
 seen-first (Admits y l) o b c p (then (observed {o = none}) w) (inl q) = absurd (false≢true (cc))
 seen-first (Admits y l) o b c p (then (observed {o = none}) w) (inr m) = absurd (quiet (ItemExecute c p) tt (quiet-fail y _ _ o _) w m)
 
--- the capability that an order names has that id
-has-id : (id : ℕ) (cs : List Capability) (c : Capability) → withId id cs ≡ some c → c .id ≡ id
-unfolding withId
-has-id id [] c e = absurd (Option·none-ne-some c e)
-has-id id (d ∷ cs) c e = go (eqb (d .id) id) refl e (has-id id cs c)
-  where
-    go : (t : Bool) → eqb (d .id) id ≡ t → cond t (some d) (withId id cs) ≡ some c → (withId id cs ≡ some c → c .id ≡ id) → c .id ≡ id
-    go true h e rest = cc (eqb-true (d .id) id h)
-    go false h e rest = rest e
-
 after-observation : (c : Capability) (l : Lease) (o : Submission) (b : Book) {seen : Observation} {v : Interaction} {rs : List Reply}
     {is : List Item} → Runs (admit (Admits c l) o b) (Observed (some seen) ∷ rs) is v
     → Mem (ItemExecute (c .id) (o .action .parameters)) (is ++ itemsAt v)
@@ -96,9 +105,9 @@ after-observation c l o b (then observed w) = inr (first-item _ w (inl refl))
 
 -- where every check holds, observe is handed out, and execute after a good observation
 module _ (o : Submission) (b : Book) (a : Admissible o b) where
-  admits : validate o b ≡ Admits (a .capability) (a .lease)
-  unfolding validate verdict orderLease leaseFor
-  admits = rw (admitted-exactly o b .1 a, a .known, a .leased)
+  pub admits : validate o b ≡ Admits (a .capability) (a .lease)
+  unfolding validate verdict orderCapability orderLease leaseFor
+  admits = rw (admitted-exactly o b .1 a, with-named (a .known), a .leased)
 
   observes : {v : Interaction} {rs : List Reply} {is : List Item}
       → Runs (admit (validate o b) o b) rs is v → Mem (ItemObserve (a .capability .resource)) (is ++ itemsAt v)
@@ -108,9 +117,8 @@ module _ (o : Submission) (b : Book) (a : Admissible o b) where
   executes : {seen : Observation} {v : Interaction} {rs after : List Reply} {is : List Item}
       → Runs (admit (validate o b) o b) rs is v → rs ≡ Observed (some seen) ∷ after
       → Mem (ItemExecute (o .action .capability) (o .action .parameters)) (is ++ itemsAt v)
-  unfolding orderCapability
   executes w e =
-      rw (← (has-id (o .action .capability) (b .capabilities) (a .capability) (a .known)))
+      rw (← (a .known .own))
       (after-observation (a .capability) (a .lease) o b (rw (admits, e) at w))
 
 -- ---- both parts, for a submission that has run so far
@@ -119,24 +127,32 @@ module _ (b : Book) (o : Submission) (x : Exchange) (k : Ran b x) (call : x .cal
   run : Runs (begin (Submit o) b) (x .replies) (k .answered) (k .at)
   run = rw call at (k .run)
 
-  ticked : (i : Item) → Driven i → Mem i (x .items) → Past (Admission o) (tick (o .now) b (λ b. Done b Returned)) (k .at) (x .replies) i
-  ticked i d m = past i d (submission o b) run (rw (k .items) at m)
+  ticked : (i : Item) → Driven i → Mem i (x .items)
+      → Past OfFallback (Admission o) (tick (o .now) b (λ b. Done b Returned)) (k .at) (x .replies) (k .answered)
+  ticked i d m = past (submission o b) run (handed i (driven i d) (rw (k .items) at m))
 
   passes : (i : Item) → Driven i → Mem i (x .items) → Passes b o x
   passes i d m =
       let p = ticked i d m in
       record {
         book = p .book;
-        ticking = p .first;
-        tickItems = p .firstItems;
-        ticked = rw (p .end .0) at (p .ended);
-        later = p .second;
-        replies = p .split;
-        admissible = checked o (p .book) i d (rw (p .end .1) at (p .left)) (p .among);
+        ticked =
+            record {
+              ticking = p .first;
+              tickItems = p .firstItems;
+              run = rw (p .end .0) at (p .ended);
+              later = p .second;
+              laterItems = p .secondItems ++ itemsAt (k .at);
+              replies = p .split;
+              items =
+                  k .items ∙ ap (λ (is : List Item). is ++ itemsAt (k .at)) (p .splitItems)
+                  ∙ append-assoc (p .firstItems) (p .secondItems) (itemsAt (k .at));
+            };
+        admissible = checked o (p .book) i d (rw (p .end .1) at (p .left)) (p .among i (driven i d) (rw (k .items) at m));
       }
 
-  left : (p : Passes b o x) → Rest (Admission o) (p .book) Returned (p .later) (k .at) (k .answered)
-  left p = rest (submission o b) (p .ticked) (rw (p .replies) at run)
+  left : (p : Passes b o x) → Rest (Admission o) (p .book) Returned (p .ticked .later) (k .at) (k .answered)
+  left p = rest (submission o b) (p .ticked .run) (rw (p .ticked .replies) at run)
 
   is-admitted : ((axis : ℕ) × Mem (ItemObserve axis) (x .items)) ↔ Passes b o x
   is-admitted = (
@@ -150,7 +166,7 @@ module _ (b : Book) (o : Submission) (x : Exchange) (k : Ran b x) (call : x .cal
   is-cleared = (
     λ m. let i : Item = ItemExecute (o .action .capability) (o .action .parameters) in
         let p = ticked i tt m in
-        let g = seen-first (validate o (p .book)) o (p .book) _ _ (rw (p .end .1) at (p .left)) (p .among) in
+        let g = seen-first (validate o (p .book)) o (p .book) _ _ (rw (p .end .1) at (p .left)) (p .among i tt (rw (k .items) at m)) in
         record { passes = passes i tt m; seen = g .0; after = g .1; good = g .2 },
     λ c. let p = c .passes in
         let r = left p in

@@ -3,16 +3,16 @@ use mathlib.Core.List.{List, [], _∷_, _++_, reverse, reverseAux}
 use mathlib.Core.Path.{_≡_, refl, ap}
 use Rattle.rules.specs.Protocol.{Input, Start, Phase, start, react}
 use Rattle.rules.specs.Lives.{outputsFrom, phaseFrom}
-use Rattle.rules.specs.Log.{History, phaseAt, outputAt}
+use Rattle.rules.specs.Log.{History, phaseAfter, outputAfter}
 
-phase-aux : (s : Start) (is : List Input) (h : History) → phaseAt s (reverseAux is h) ≡ phaseFrom (phaseAt s h) is
-unfolding phaseAt phaseFrom
+phase-aux : (s : Start) (is : List Input) (h : History) → phaseAfter s (reverseAux is h) ≡ phaseFrom (phaseAfter s h) is
+unfolding phaseAfter phaseFrom
 phase-aux s [] h = refl
 phase-aux s (i ∷ is) h = phase-aux s is (i ∷ h)
 
 -- where the runtime stands after a life's inputs
-pub phase-forward : (s : Start) (is : List Input) → phaseAt s (reverse is) ≡ phaseFrom (start s .phase) is
-unfolding phaseAt
+pub phase-forward : (s : Start) (is : List Input) → phaseAfter s (reverse is) ≡ phaseFrom (start s .phase) is
+unfolding phaseAfter
 phase-forward s is = phase-aux s is []
 
 -- the outputs up to a cut are those of the cut life, whatever comes later
@@ -23,6 +23,6 @@ cut-outputs p (i ∷ is) later = ap (λ os. react p i .output ∷ os) (cut-outpu
 
 -- the last output of a life's inputs is that of its whole history
 pub output-forward : (s : Start) (is : List Input) (i : Input)
-    → outputsFrom (start s .phase) (is ++ (i ∷ [])) ≡ outputsFrom (start s .phase) is ++ (outputAt s (i ∷ reverse is) ∷ [])
-unfolding outputAt outputsFrom
-output-forward s is i = rw (outputAt, phase-forward s is) (cut-outputs (start s .phase) is (i ∷ []))
+    → outputsFrom (start s .phase) (is ++ (i ∷ [])) ≡ outputsFrom (start s .phase) is ++ (outputAfter s (i ∷ reverse is) ∷ [])
+unfolding outputAfter outputsFrom
+output-forward s is i = rw (outputAfter, phase-forward s is) (cut-outputs (start s .phase) is (i ∷ []))

@@ -25,14 +25,17 @@ use Rattle.model.specs.declared.Replay.{Replay}
 use Rattle.model.specs.declared.RuntimeState.{RuntimeState}
 use Rattle.model.specs.declared.Submission.{Submission}
 use Rattle.model.specs.Soundness.{sound}
-use Rattle.rules.specs.Book.{Book, leaseAt, withLeases, withActive, withReplay, withReceipts, withNextReceipt, withNextLease, withEpoch, withFlags, withLastTick, withState, withInvalidCount, withEstopSeen}
+use Rattle.rules.specs.Book.{Book, leaseAt}
+use Rattle.rules.specs.With.{withLeases, withActive, withReplay, withReceipts, withNextReceipt, withNextLease, withEpoch, withFlags, withLastTick, withState, withInvalidCount, withEstopSeen}
 use Rattle.rules.specs.Receipts.{top, bump, receiptCapacity, keep, kept}
 use Rattle.rules.specs.Interaction.{Answer, Returned, Polled, Succeeded, Leased as LeasedTo, Refused, Submitted}
 use Rattle.rules.specs.Rules.{replayCapacity, masked, bumpEpoch, cleared, refreshState, newLease, granted, extended, withSequence, consumed}
 use Rattle.rules.specs.Protocol.{Call, Acquire, Renew, Submit, Reply, ItemObserve, ItemExecute, ItemFallback, ItemRecord, Start, opening, refusedStart}
-use Rattle.rules.specs.Log.{Took, Replied, Handed, Ended, Log, callOf, submissionOf, reaching, executed, counted, nextNumber, keptAfter, receiptsOf, observing, dispatching, Admitted, admittedAs, admitting, admissions, entryOf, highest, Tenancy, tenancyOf, until, renewedBy, isControl, isGrant, recordedOn, holding, live, seenRaise, stops, fallsFor, inForce, flagsOf, bumpsAt, bumps}
-use Rattle.rules.specs.Admissible.{Mem}
-use Rattle.rules.specs.Claim.{Distinct, Carried, Leased, Observing, Recording, tenancyIn, Rising, Name, nameOf, SoundStart}
+use Rattle.rules.specs.Log.{Took, Replied, Handed, Ended, Log, callOf, submissionIn, reaching, executed, counted, nextNumber, keptWith, receiptsKept, observing, dispatching, Admitted, admittedAs, admitting, admissions, entryOf, highest, Tenancy, tenancyOf, until, renewedBy, isControl, isGrant, recordedOn, holding, live}
+use Rattle.rules.specs.Epoch.{seenRaise, stops, fallsFor, inForce, flagsOf, bumpsAt, bumps}
+use Rattle.rules.specs.Lists.{Mem, Distinct}
+use Rattle.rules.specs.SoundStart.{SoundStart}
+use Rattle.rules.specs.Claim.{Carried, Leased, Observing, Recording, tenancyIn, Rising, Name, nameOf}
 use Rattle.rules.specs.StopFacts.{Reported}
 use Rattle.rules.proofs.Soundness.{sound-start}
 use Rattle.rules.proofs.Safe.{Plain}
@@ -55,6 +58,11 @@ abbrev pub LastIs : List Admitted → Option Lease → Type 0
 LastIs A none = Unit
 LastIs A (some x) = x .«last_sequence» ≡ highest (x .id) A
 
+-- a lease names the axis on which it stands
+abbrev OnAxis : ℕ → Option Lease → Type 0
+OnAxis i none = Unit
+OnAxis i (some x) = x .resource ≡ i
+
 abbrev Unique : List (Option Lease) → Type 0
 Unique ls = (i j : ℕ) (x y : Lease) → getD ls i none ≡ some x → getD ls j none ≡ some y → x .id ≡ y .id → i ≡ j
 
@@ -67,6 +75,7 @@ pub record Leases (A : List Admitted) (L : ℕ → Option Tenancy) (leases : Lis
   pub stands : (i : ℕ) → L i ≡ held (getD leases i none)
   pub known : (a : Admitted) → Mem a A → a .submission .action .«lease_id» < nextLease
   pub last : (i : ℕ) → LastIs A (getD leases i none)
+  pub home : (i : ℕ) → OnAxis i (getD leases i none)
 
 abbrev pub orders : List Submission → List Action
 orders xs = map (λ x. x .action) xs
@@ -98,7 +107,7 @@ pub record Inv (s : Start) (E : List Submission) (A : List Admitted) (L : ℕ �
 
 abbrev pub InvBook : Start → Log → Book → Type 0
 InvBook s l b =
-    Inv s (executed l) (admissions l) (λ i. live i l) (receiptsOf l) (nextNumber l)
+    Inv s (executed l) (admissions l) (λ i. live i l) (receiptsKept l) (nextNumber l)
     (b .bootId) (b .config) (b .capabilities) (b .leases) (b .nextLease) (b .replay) (b .receipts) (b .nextReceipt)
 
 abbrev pub Proper : Start → Log → ℕ → List ℤ → Type 0
@@ -130,7 +139,7 @@ I s l b = InvBook s l b × Carry s l × EpochsOf s l b
 
 module _ (s : Start) (l : Log) (b : Book) (h : I s l b) where
   pub inv-replied : (r : Reply) → I s (Replied r ∷ l) b
-  unfolding executed admissions live receiptsOf nextNumber seenRaise flagsOf stops inForce bumps bumpsAt
+  unfolding executed admissions live receiptsKept nextNumber seenRaise flagsOf stops inForce bumps bumpsAt
   inv-replied r = (h .0, tt, h .2)
 
   pub inv-restated : (x : RuntimeState) → I s l (withState x b)
@@ -158,18 +167,18 @@ module _ (s : Start) (l : Log) (b : Book) (h : I s l b) where
 -- one that neither stops nor polls
 pub inv-took : (s : Start) (c : Call) (l : Log) (b : Book) → stops (Took c) l ≡ false → seenRaise (Took c ∷ l) ≡ seenRaise l → I s l b
     → I s (Took c ∷ l) b
-unfolding executed admissions live receiptsOf nextNumber
+unfolding executed admissions live receiptsKept nextNumber
 inv-took s c l b no-stop same h = (h .0, tt, epochs-took s c l b no-stop same (h .2))
 
 -- a stop, once the mask is set in the flags, and the raise number seen
 pub inv-stopped : (s : Start) (c : Call) (now : ℕ) (l : Log) (b : Book) (seen : ℕ) → stops (Took c) l ≡ true → seen ≡ seenRaise (Took c ∷ l) → I s l b
     → I s (Took c ∷ l) (masked now (withEstopSeen seen b))
-unfolding executed admissions live receiptsOf nextNumber masked withEstopSeen withLastTick withFlags bumpEpoch withEpoch
+unfolding executed admissions live receiptsKept nextNumber masked withEstopSeen withLastTick withFlags bumpEpoch withEpoch
 inv-stopped s c now l b seen stop same h = (h .0, tt, epochs-stopped s c l b seen stop (h .0 .config) same (h .2))
 
 -- as it ends, the flags that this brings into force are set
 pub inv-ended : (s : Start) (a : Answer) (l : Log) (b : Book) → Answering l a → InvBook s l b → EpochsAt s (Ended a) l b → I s (Ended a ∷ l) b
-unfolding executed admissions live receiptsOf nextNumber seenRaise bumps bumpsAt
+unfolding executed admissions live receiptsKept nextNumber seenRaise bumps bumpsAt
 inv-ended s a l b carry f e = (f, carry, e)
 
 -- ---- a receipt of an order or a fallback
@@ -204,11 +213,12 @@ leases-live e f =
       stands = λ i. e i ∙ f .stands i;
       known = f .known;
       last = f .last;
+      home = f .home;
     }
 
 pub inv-recorded : (s : Start) (r : Receipt) (l : Log) (b : Book) → isControl (r .decision) ≡ false → r .«receipt_id» ≡ b .nextReceipt → I s l b
     → I s (Handed (ItemRecord r) ∷ l) (kept r b)
-unfolding executed reaching admissions admitting live holding receiptsOf keptAfter nextNumber counted kept withNextReceipt withReceipts
+unfolding executed reaching admissions admitting live holding receiptsKept keptWith nextNumber counted kept withNextReceipt withReceipts
 inv-recorded s r l b quiet id h =
     let f = h .0 in
     let k = f .counts in (
@@ -247,6 +257,7 @@ leases-fallen A L ls n axis f =
           (λ m. ended i (eqb axis i) refl m (f .stands i));
       known = f .known;
       last = λ i. at-set none (LastIs A) ls axis none i (λ e. tt) (λ m. f .last i);
+      home = λ i. at-set none (OnAxis i) ls axis none i (λ e. tt) (λ m. f .home i);
     }
   where
     ended : (i : ℕ) (t : Bool) → eqb axis i ≡ t → (i ≡ axis → getD ls i none ≡ none) → L i ≡ held (getD ls i none) → cond t none (L i) ≡ held (getD ls i none)
@@ -256,7 +267,7 @@ leases-fallen A L ls n axis f =
 -- as the item is handed out, the flags that it brings into force are set
 pub inv-fallen : (s : Start) (axis : ℕ) (reason : Reason) (c : Call) (l : Log) (b : Book) → callOf l ≡ some c → InvBook s l b
     → EpochsAt s (Handed (ItemFallback axis reason)) l b → I s (Handed (ItemFallback axis reason) ∷ l) (cleared axis b)
-unfolding executed reaching admissions admitting live holding receiptsOf keptAfter nextNumber counted cleared bumpEpoch withEpoch withLeases withActive
+unfolding executed reaching admissions admitting live holding receiptsKept keptWith nextNumber counted cleared bumpEpoch withEpoch withLeases withActive
 inv-fallen s axis reason c l b call f e = (
   record {
     sound = f .sound;
@@ -278,6 +289,9 @@ below-at n o y e h = rw e at h
 
 last-at : (A : List Admitted) (o : Option Lease) (y : Lease) → o ≡ some y → LastIs A o → y .«last_sequence» ≡ highest (y .id) A
 last-at A o y e h = rw e at h
+
+home-at : (i : ℕ) (o : Option Lease) (y : Lease) → o ≡ some y → OnAxis i o → y .resource ≡ i
+home-at i o y e h = rw e at h
 
 -- a lease with a number that none has
 unique-new : (ls : List (Option Lease)) (axis n : ℕ) (v : Lease) → v .id ≡ n → ((i : ℕ) → IdBelow n (getD ls i none)) → Unique ls → Unique (set ls axis (some v))
@@ -313,7 +327,7 @@ pub record Granting (r : Receipt) (request : LeaseRequest) (n : ℕ) (next : ℕ
 pub inv-granted : (s : Start) (r : Receipt) (request : LeaseRequest) (now : ℕ) (l : Log) (b : Book) → Granting r request (b .nextLease) (b .nextReceipt)
     → request .resource < 8 → b .nextLease < top → leaseAt b (request .resource) ≡ none → callOf l ≡ some (Acquire request now) → I s l b
     → I s (Handed (ItemRecord r) ∷ l) (kept r (granted (newLease request (b .nextLease) now) b))
-unfolding executed reaching admissions admitting live holding recordedOn tenancyOf receiptsOf keptAfter nextNumber counted kept withNextReceipt withReceipts granted refreshState withState bumpEpoch withEpoch withLeases withNextLease newLease
+unfolding executed reaching admissions admitting live holding recordedOn tenancyOf receiptsKept keptWith nextNumber counted kept withNextReceipt withReceipts granted refreshState withState bumpEpoch withEpoch withLeases withNextLease newLease
 inv-granted s r request now l b g inside room free call h =
     let f = h .0 in
     let k = f .counts in
@@ -338,6 +352,7 @@ inv-granted s r request now l b g inside room free call h =
               known = λ a m. omega (arith, n .known a m);
               last = λ i. at-set none (LastIs (admissions l)) (b .leases) axis (some x) i
                   (λ e. sym (highest-none (b .nextLease) (admissions l) (λ a m q. omega (arith, n .known a m)))) (λ m. n .last i);
+              home = λ i. at-set none (OnAxis i) (b .leases) axis (some x) i (λ e. sym e) (λ m. n .home i);
             };
         ordered = f .ordered;
         counts = receipts-kept r (g .number) k;
@@ -365,7 +380,7 @@ pub record Renewing (r : Receipt) (axis next : ℕ) : Type 0 where
 pub inv-renewed : (s : Start) (r : Receipt) (axis : ℕ) (renewal : Renewal) (x : Lease) (l : Log) (b : Book) → Renewing r axis (b .nextReceipt)
     → leaseAt b axis ≡ some x → callOf l ≡ some (Renew renewal) → I s l b
     → I s (Handed (ItemRecord r) ∷ l) (kept r (withLeases (set (b .leases) axis (some (extended renewal x))) b))
-unfolding executed reaching admissions admitting live holding recordedOn renewedBy until receiptsOf keptAfter nextNumber counted kept withNextReceipt withReceipts withLeases extended
+unfolding executed reaching admissions admitting live holding recordedOn renewedBy until receiptsKept keptWith nextNumber counted kept withNextReceipt withReceipts withLeases extended
 inv-renewed s r axis renewal x l b g at call h =
     let f = h .0 in
     let k = f .counts in
@@ -387,6 +402,7 @@ inv-renewed s r axis renewal x l b g at call h =
                   (λ m. rw (g .control) (other i (eqb (r .resource) i) refl m));
               known = n .known;
               last = λ i. at-set none (LastIs (admissions l)) (b .leases) axis (some v) i (λ e. last-at _ _ x at (n .last axis)) (λ m. n .last i);
+              home = λ i. at-set none (OnAxis i) (b .leases) axis (some v) i (λ e. home-at _ _ x at (n .home axis) ∙ sym e) (λ m. n .home i);
             };
         ordered = f .ordered;
         counts = receipts-kept r (g .number) k;
@@ -458,7 +474,7 @@ orders-admitted s E A es o n unused f =
 pub inv-admitted : (s : Start) (o : Submission) (c : Capability) (x : Lease) (l : Log) (b : Book) → Passed o c x b
     → callOf l ≡ some (Submit o) → observing l ≡ false → Observing s l (c .resource) → I s l b
     → I s (Handed (ItemObserve (c .resource)) ∷ l) (consumed c x o b)
-unfolding seenRaise flagsOf stops inForce fallsFor bumps bumpsAt executed reaching admissions admitting submissionOf live holding receiptsOf keptAfter nextNumber counted consumed withReplay withLeases withSequence
+unfolding seenRaise flagsOf stops inForce fallsFor bumps bumpsAt executed reaching admissions admitting submissionIn live holding receiptsKept keptWith nextNumber counted consumed withReplay withLeases withSequence
 inv-admitted s o c x l b p call unseen carry h =
     let f = h .0 in
     let n = f .leasing in
@@ -483,6 +499,7 @@ inv-admitted s o c x l b p call unseen carry h =
                   last = λ i. at-set-in none (LastIs (a ∷ admissions l)) (b .leases) axis (some v) i (omega (arith, n .eight, p .inside))
                       (λ e. highest-new a (admissions l) (x .id) (sym (p .lease)) (omega (arith, p .above, last-at _ _ x (p .leased) (n .last axis))))
                       (λ d. older i d (getD (b .leases) i none) refl (n .last i));
+                  home = λ i. at-set none (OnAxis i) (b .leases) axis (some v) i (λ e. home-at _ _ x (p .leased) (n .home axis) ∙ sym e) (λ m. n .home i);
                 };
             ordered = rw (f .counts .next) es;
             counts = f .counts;
@@ -504,7 +521,7 @@ inv-admitted s o c x l b p call unseen carry h =
 
 -- the second observation
 pub inv-observed : (s : Start) (axis : ℕ) (l : Log) (b : Book) → observing l ≡ true → Observing s l axis → I s l b → I s (Handed (ItemObserve axis) ∷ l) b
-unfolding seenRaise flagsOf stops inForce fallsFor bumps bumpsAt executed reaching admissions admitting live holding receiptsOf keptAfter nextNumber counted
+unfolding seenRaise flagsOf stops inForce fallsFor bumps bumpsAt executed reaching admissions admitting live holding receiptsKept keptWith nextNumber counted
 inv-observed s axis l b seen carry h = (rw seen (h .0), carry, h .2)
 
 -- ---- an order reaches execute
@@ -530,7 +547,7 @@ pub inv-executed : (s : Start) (o : Submission) (c : ℕ) (ps : List ℤ) (l : L
     → o .action .«boot_id» ≡ s .bootId → ¬ Mem (o .action) (orders (executed l))
     → (a : Admitted) × Mem a (admissions l) × (a .submission ≡ o)
     → Proper s (Handed (ItemExecute c ps) ∷ l) c ps → I s l b → I s (Handed (ItemExecute c ps) ∷ l) b
-unfolding seenRaise flagsOf stops inForce fallsFor bumps bumpsAt executed reaching submissionOf admissions admitting live holding receiptsOf keptAfter nextNumber counted
+unfolding seenRaise flagsOf stops inForce fallsFor bumps bumpsAt executed reaching submissionIn admissions admitting live holding receiptsKept keptWith nextNumber counted
 inv-executed s o c ps l b call boot new admitted proper h =
     let f = h .0 in (
       rw call
@@ -598,7 +615,7 @@ no-lease (suc n) (suc i) = no-lease n i
 -- a startup fallback changes nothing
 inv-startup : (s : Start) (axis : ℕ) (reason : Reason) (l : Log) → callOf l ≡ none → I s l (opening s)
     → I s (Handed (ItemFallback axis reason) ∷ l) (opening s)
-unfolding executed reaching admissions admitting live holding receiptsOf keptAfter nextNumber counted opening
+unfolding executed reaching admissions admitting live holding receiptsKept keptWith nextNumber counted opening
 inv-startup s axis reason l call h =
     let f = h .0 in (
       record {
@@ -619,7 +636,7 @@ inv-startup s axis reason l call h =
     ended false o e = refl
 
 pub inv-opening : (s : Start) (l : Log) → Plain l → refusedStart s ≡ none → I s l (opening s)
-unfolding executed admissions live receiptsOf nextNumber seenRaise flagsOf bumps opening
+unfolding executed admissions live receiptsKept nextNumber seenRaise flagsOf bumps opening
 inv-opening s [] plain e = (
   record {
     sound = sound-start s e;
@@ -635,6 +652,7 @@ inv-opening s [] plain e = (
           stands = λ i. sym (ap held (no-lease 8 i));
           known = λ a m. absurd m;
           last = λ i. rw (no-lease 8 i) tt;
+          home = λ i. rw (no-lease 8 i) tt;
         };
     ordered = record { replay = refl; apart = tt; among = λ x m. absurd m; home = λ o m. absurd m; distinct = tt };
     counts = record { kept = refl; next = refl; rising = λ h. record { order = tt; latest = inl refl } };

@@ -19,14 +19,15 @@ use Rattle.model.specs.declared.RuntimeState.{RuntimeState}
 use Rattle.model.specs.declared.RuntimeState.the-variants as State
 use Rattle.model.specs.Lists.{any}
 use Rattle.model.specs.Reasons.{number}
-use Rattle.rules.specs.Book.{Book, leaseAt, activeAt, withLeases, withActive, withReceipts, withNextReceipt, withEpoch, withLastTick, withState}
+use Rattle.rules.specs.Book.{Book, leaseAt, activeAt}
+use Rattle.rules.specs.With.{withLeases, withActive, withReceipts, withNextReceipt, withEpoch, withLastTick, withState}
 use Rattle.rules.specs.Receipts.{top, numbered, kept, event}
 use Rattle.rules.specs.Interaction.{Answer, Interaction}
 use Rattle.rules.specs.Admission.{holdsOf, isSome, isArmed, isEstopped, isStale, axes}
 use Rattle.rules.specs.Rules.{usedAxes, bumpEpoch, recordReceipt, refreshed, refreshState, cleared, fallback, tripped, fallbacks, trip, fallbackOrTrip, exhausted, watchdog, staleness, due, fallbackIf, expiries, supervise, tick}
 use Rattle.rules.specs.Protocol.{Reply, FellBack, Recorded, ItemFallback, ItemRecord}
 use Rattle.rules.specs.Log.{Replied, Handed, Log, isControl}
-use Rattle.rules.specs.Admissible.{Mem}
+use Rattle.rules.specs.Lists.{Mem}
 use Rattle.rules.proofs.Basics.{neither}
 use Rattle.rules.proofs.Safe.{Safe}
 

@@ -12,10 +12,12 @@ use Rattle.rules.specs.Book.{Book}
 use Rattle.rules.specs.Interaction.{Submitted}
 use Rattle.rules.specs.Protocol.{Submit, ItemObserve, ItemExecute, ItemRecord, Hands, Answers, Start, Phase, Starting, Gone, Idle, Waiting, waitBook, bookIn, start, react}
 use Rattle.rules.specs.Lives.{Life}
-use Rattle.rules.specs.Log.{History, phaseAt, outputAt, Event, Handed, Ended, Log, handed, arrived, extended, logOf, executed, dispatching, executedBy, executedIn}
-use Rattle.rules.specs.Admissible.{Mem}
-use Rattle.rules.specs.Claim.{Distinct, Carried, Leased, Observing, Recording, BookFacts}
+use Rattle.rules.specs.Log.{History, phaseAfter, outputAfter, Event, Handed, Ended, Log, handed, arrived, logged, logOf, executed, dispatching, executedBy, executedIn}
+use Rattle.rules.specs.Lists.{Mem, Distinct}
+use Rattle.rules.specs.Claim.{Carried, Leased, Observing, Recording, BookFacts}
 use Rattle.rules.specs.StopFacts.{Reported}
+use Rattle.rules.proofs.Basics.{mem-split}
+use Rattle.rules.proofs.Turns.{newest}
 use Rattle.rules.proofs.Safe.{Plain, SafePhase, at-wait, shows}
 use Rattle.rules.proofs.Invariant.{I, orders, held, Proper, Carry, plain-executed}
 use Rattle.rules.proofs.Within.{End}
@@ -28,16 +30,20 @@ split s l Gone h = inl h
 split s l (Idle b) h = inr (b, h)
 split s l (Waiting w) h = inr (waitBook w, at-wait (I s) (End s) l w h)
 
-pub holds : (s : Start) (h : History) (b : Book) → bookIn (phaseAt s h) ≡ some b → I s (logOf s h) b
-holds s h b e = shows s (I s) (End s) (logOf s h) (phaseAt s h) b (invariant s h) e
+pub holds : (s : Start) (h : History) (b : Book) → bookIn (phaseAfter s h) ≡ some b → I s (logOf s h) b
+holds s h b e = shows s (I s) (End s) (logOf s h) (phaseAfter s h) b (invariant s h) e
 
-pub book-facts : (s : Start) (h : History) (b : Book) → bookIn (phaseAt s h) ≡ some b → BookFacts s (logOf s h) b
+pub book-facts : (s : Start) (h : History) (b : Book) → bookIn (phaseAfter s h) ≡ some b → BookFacts s (logOf s h) b
 book-facts s h b e =
     let k = holds s h b e in
     let f = k .0 in
     record {
+      config = f .config;
+      boot = f .own;
+      capabilities = f .capabilities;
       standing = λ axis x q. f .leasing .stands axis ∙ ap held q;
       ended = λ axis q. f .leasing .stands axis ∙ ap held q;
+      home = λ axis x q. rw q at (f .leasing .home axis);
       last = λ axis x q. rw q at (f .leasing .last axis);
       replay = f .ordered .replay;
       receipts = f .counts .kept;
@@ -49,18 +55,10 @@ book-facts s h b e =
       epoch = k .2 .count;
     }
 
--- the newest event is what the newest output hands out
-pub newest : (s : Start) (h : History) (e : Event) → handed (outputAt s h) ≡ e ∷ [] → (l : Log) × (logOf s h ≡ e ∷ l)
-unfolding outputAt logOf extended
-newest s [] e q = ([], q)
-newest s (i ∷ past) e q =
-    let l = arrived i (react (phaseAt s past) i .output) ++ logOf s past in
-    (l, ap (λ (m : Log). m ++ l) q)
-
 -- what the invariant says of an event that has just come, if no start brings its like
-carried : (s : Start) (h : History) (e : Event) → ((l : Log) → ¬ Plain (e ∷ l)) → handed (outputAt s h) ≡ e ∷ []
+carried : (s : Start) (h : History) (e : Event) → ((l : Log) → ¬ Plain (e ∷ l)) → handed (outputAfter s h) ≡ e ∷ []
     → (l : Log) × (logOf s h ≡ e ∷ l) × Carry s (e ∷ l)
-carried s h e never q = (n .0, n .1, go (split s (logOf s h) (phaseAt s h) (invariant s h)))
+carried s h e never q = (n .0, n .1, go (split s (logOf s h) (phaseAfter s h) (invariant s h)))
   where
     n : (l : Log) × (logOf s h ≡ e ∷ l)
     n = newest s h e q
@@ -69,31 +67,31 @@ carried s h e never q = (n .0, n .1, go (split s (logOf s h) (phaseAt s h) (inva
     go (inl plain) = absurd (never (n .0) (subst Plain (n .1) plain))
     go (inr r) = subst (λ l. Carry s l) (n .1) (r .1 .1)
 
-pub observes : (s : Start) (h : History) (axis : ℕ) → outputAt s h ≡ Hands (ItemObserve axis)
+pub observes : (s : Start) (h : History) (axis : ℕ) → outputAfter s h ≡ Hands (ItemObserve axis)
     → (l : Log) × (logOf s h ≡ Handed (ItemObserve axis) ∷ l) × Observing s l axis
 unfolding handed
 observes s h axis e = carried s h (Handed (ItemObserve axis)) (λ l p. p) (ap handed e)
 
-pub records : (s : Start) (h : History) (r : Receipt) → outputAt s h ≡ Hands (ItemRecord r)
+pub records : (s : Start) (h : History) (r : Receipt) → outputAfter s h ≡ Hands (ItemRecord r)
     → (l : Log) × (logOf s h ≡ Handed (ItemRecord r) ∷ l) × Recording l r
 unfolding handed
 records s h r e = carried s h (Handed (ItemRecord r)) (λ l p. p) (ap handed e)
 
-pub receipt-reports : (s : Start) (h : History) (r : Receipt) → outputAt s h ≡ Answers (Submitted r) → Reported (dispatching (logOf s h)) r
+pub receipt-reports : (s : Start) (h : History) (r : Receipt) → outputAfter s h ≡ Answers (Submitted r) → Reported (dispatching (logOf s h)) r
 unfolding handed dispatching
 receipt-reports s h r e = let q = carried s h (Ended (Submitted r)) (λ l p. p) (ap handed e) in rw (q .1) (q .2)
 
-proper : (s : Start) (h : History) (c : ℕ) (p : List ℤ) → outputAt s h ≡ Hands (ItemExecute c p) → Proper s (logOf s h) c p
+proper : (s : Start) (h : History) (c : ℕ) (p : List ℤ) → outputAfter s h ≡ Hands (ItemExecute c p) → Proper s (logOf s h) c p
 unfolding handed
 proper s h c p e = let q = carried s h (Handed (ItemExecute c p)) (λ l k. k) (ap handed e) in subst (λ l. Proper s l c p) (sym (q .1)) (q .2)
 
-pub only-submissions : (s : Start) (h : History) (c : ℕ) (p : List ℤ) → outputAt s h ≡ Hands (ItemExecute c p) → Carried (logOf s h) c p
+pub only-submissions : (s : Start) (h : History) (c : ℕ) (p : List ℤ) → outputAfter s h ≡ Hands (ItemExecute c p) → Carried (logOf s h) c p
 only-submissions s h c p e = proper s h c p e .0
 
 submit-same : {a b : Submission} → some (Submit a) ≡ some (Submit b) → a ≡ b
 submit-same e = cc
 
-pub live-lease : (s : Start) (h : History) (c : ℕ) (p : List ℤ) → outputAt s h ≡ Hands (ItemExecute c p)
+pub live-lease : (s : Start) (h : History) (c : ℕ) (p : List ℤ) → outputAfter s h ≡ Hands (ItemExecute c p)
     → (k : Carried (logOf s h) c p) → Leased s (logOf s h) (k .submission)
 live-lease s h c p e k =
     let q = proper s h c p e in
@@ -102,14 +100,14 @@ live-lease s h c p e k =
 -- the orders of one life -------------------------------------------------------------------------------------------------
 
 distinct : (s : Start) (h : History) → Distinct (orders (executed (logOf s h)))
-distinct s h = go (split s (logOf s h) (phaseAt s h) (invariant s h))
+distinct s h = go (split s (logOf s h) (phaseAfter s h) (invariant s h))
   where
     go : Plain (logOf s h) ⊎ ((b : Book) × I s (logOf s h) b) → Distinct (orders (executed (logOf s h)))
     go (inl plain) = rw (plain-executed (logOf s h) plain) tt
     go (inr r) = r .1 .0 .ordered .distinct
 
 home : (s : Start) (h : History) (o : Action) → Mem o (orders (executed (logOf s h))) → o .«boot_id» ≡ s .bootId
-home s h o = go (split s (logOf s h) (phaseAt s h) (invariant s h))
+home s h o = go (split s (logOf s h) (phaseAfter s h) (invariant s h))
   where
     go : Plain (logOf s h) ⊎ ((b : Book) × I s (logOf s h) b) → Mem o (orders (executed (logOf s h))) → o .«boot_id» ≡ s .bootId
     go (inl plain) = rw (plain-executed (logOf s h) plain) (λ m. absurd m)
@@ -117,18 +115,9 @@ home s h o = go (split s (logOf s h) (phaseAt s h) (invariant s h))
 
 -- over all lives ---------------------------------------------------------------------------------------------------------
 
-mem-append : (o : Action) (xs ys : List Action) → Mem o (xs ++ ys) → Mem o xs ⊎ Mem o ys
-mem-append o [] ys m = inr m
-mem-append o (x ∷ xs) ys (inl e) = inl (inl e)
-mem-append o (x ∷ xs) ys (inr m) = go (mem-append o xs ys m)
-  where
-    go : Mem o xs ⊎ Mem o ys → ((o ≡ x) ⊎ Mem o xs) ⊎ Mem o ys
-    go (inl n) = inl (inr n)
-    go (inr n) = inr n
-
 distinct-append : (xs ys : List Action) → Distinct xs → Distinct ys → ((o : Action) → Mem o xs → ¬ Mem o ys) → Distinct (xs ++ ys)
 distinct-append [] ys d e h = e
-distinct-append (x ∷ xs) ys d e h = (λ m. go (mem-append x xs ys m), distinct-append xs ys (d .1) e (λ o m. h o (inr m)))
+distinct-append (x ∷ xs) ys d e h = (λ m. go (mem-split x xs ys m), distinct-append xs ys (d .1) e (λ o m. h o (inr m)))
   where
     go : Mem x xs ⊎ Mem x ys → ⊥
     go (inl m) = d .0 m
@@ -140,7 +129,7 @@ boots ls = map (λ l. l .start .bootId) ls
 boot-of : (ls : List Life) (o : Action) → Mem o (executedIn ls) → Mem (o .«boot_id») (boots ls)
 unfolding executedIn
 boot-of [] o m = m
-boot-of (l ∷ ls) o m = go (mem-append o (executedBy l) (executedIn ls) m) (boot-of ls o)
+boot-of (l ∷ ls) o m = go (mem-split o (executedBy l) (executedIn ls) m) (boot-of ls o)
   where
     go : Mem o (executedBy l) ⊎ Mem o (executedIn ls) → (Mem o (executedIn ls) → Mem (o .«boot_id») (boots ls))
         → (o .«boot_id» ≡ l .start .bootId) ⊎ Mem (o .«boot_id») (boots ls)

@@ -12,9 +12,9 @@ use Rattle.rules.specs.Book.{Book}
 use Rattle.rules.specs.Interaction.{Answer, Interaction, Done, Observe, Execute, Fallback, Record}
 use Rattle.rules.specs.Rules.{usedAxes}
 use Rattle.rules.specs.Protocol.{Call, Reply, Input, Calls, Replies, Reads, Reading, Item, ItemFallback, Output, Started, StartRefused, Hands, Answers, Reminds, Refuses, Shows, NoRuntime, Start, Phase, bookIn, begin, proceed, opening, refusedStart, startFrom, startUnless, start, startReplied, called, replied, shown, effect, apply, react}
-use Rattle.rules.specs.Log.{History, phaseAt, outputAt, Event, Took, Replied, Handed, Ended, Log, handed, tookEffect, arrived, extended, logOf}
-use Rattle.rules.specs.Admissible.{Mem}
-use Rattle.rules.specs.Claim.{Takes, observed, executed, fellBack, recorded, Runs, here, then}
+use Rattle.rules.specs.Log.{History, phaseAfter, outputAfter, Event, Took, Replied, Handed, Ended, Log, handed, tookEffect, arrived, logged, logOf}
+use Rattle.rules.specs.Lists.{Mem}
+use Rattle.rules.specs.Way.{Takes, observed, executed, fellBack, recorded, Runs, here, then}
 use Rattle.rules.proofs.Steps.{Stands, atObserve, atExecute, atFallback, atRecord, Stays, Step, stays, tries, begins, answers, step}
 use Rattle.rules.proofs.Safe.{Safe, Plain, SafePhase, always}
 
@@ -99,7 +99,7 @@ module _ (W : Log → Book → Type 0) (D : Log → Book → Answer → Type 0) 
   silent x NoRuntime e = tt
 
   brought-stays : (p : Phase) (i : Input) → Stays p i → Brought W D (react p i .output)
-  unfolding react apply effect extended arrived
+  unfolding react apply effect logged arrived
   brought-stays p (Calls c) st = silent (Took c) _ (st .log [])
   brought-stays p (Replies r) st = silent (Replied r) _ (st .log [])
   brought-stays p (Reads q) st = brought-reading q (bookIn p)
@@ -124,11 +124,11 @@ module _ (s : Start) (I W : Log → Book → Type 0) (D : Log → Book → Answe
   brings-step l p i (answers {r = r} t u a) h = rw (a .reaction) (brought W D (Replied r ∷ l) u (awaited l p r (a .item) t u (a .stands) (a .takes) h))
 
   -- what the newest output of a history brings
-  pub brings : (h : History) → Brought W D (outputAt s h)
-  unfolding outputAt start startUnless
+  pub brings : (h : History) → Brought W D (outputAfter s h)
+  unfolding outputAfter start startUnless
   brings [] = go (refusedStart s)
     where
       go : (r : Option ℕ) → Brought W D (startUnless r s .output)
       go (some n) = tt
       go none = brought-start W D s (usedAxes (s .capabilities)) true
-  brings (i ∷ past) = brings-step (logOf s past) (phaseAt s past) i (step (phaseAt s past) i) (always s I W D ends opens calls past)
+  brings (i ∷ past) = brings-step (logOf s past) (phaseAfter s past) i (step (phaseAfter s past) i) (always s I W D ends opens calls past)

@@ -9,8 +9,8 @@ use Rattle.rules.specs.Book.{Book}
 use Rattle.rules.specs.Interaction.{Answer, Interaction, Done, Observe, Execute, Fallback, Record}
 use Rattle.rules.specs.Rules.{usedAxes}
 use Rattle.rules.specs.Protocol.{Call, Reply, Observed, Executed, FellBack, Recorded, Input, Item, ItemObserve, ItemExecute, ItemFallback, ItemRecord, Start, Wait, OnObserve, OnExecute, OnFallback, OnRecord, Phase, Starting, Gone, Idle, Waiting, waitBook, bookIn, opening, startFrom, refusedStart, startUnless, start, startReplied, replied, called, effect, apply, begin, proceed, react}
-use Rattle.rules.specs.Log.{History, phaseAt, Took, Replied, Handed, Ended, Log, handed, arrived, extended, logOf}
-use Rattle.rules.specs.Claim.{Takes, observed, executed, fellBack, recorded}
+use Rattle.rules.specs.Log.{History, phaseAfter, Took, Replied, Handed, Ended, Log, handed, arrived, logged, logOf}
+use Rattle.rules.specs.Way.{Takes, observed, executed, fellBack, recorded}
 use Rattle.rules.proofs.Steps.{Stands, atObserve, atExecute, atFallback, atRecord, eventAt, handed-event, effective, start-effective, Step, stays, tries, begins, answers, step}
 
 -- `W` holds wherever the interaction waits, and `D` where it ends with an answer
@@ -83,8 +83,8 @@ module _ (s : Start) (I W : Log → Book → Type 0) (D : Log → Book → Answe
   start-on l [] false h sound = h
 
   safe-step : (l : Log) (p : Phase) (i : Input) → Step p i → SafePhase s I W D l p
-      → SafePhase s I W D (extended i (react p i .output) l) (react p i .phase)
-  unfolding react apply effect called replied startReplied extended arrived
+      → SafePhase s I W D (logged i (react p i .output) l) (react p i .phase)
+  unfolding react apply effect called replied startReplied logged arrived
   safe-step l p i (stays st) h = rw (st .log l, st .phase) h
   safe-step l p i (tries own axis rest good ok) h =
       rw (h .0, start-effective s _ _) (start-on (Replied (FellBack ok) ∷ l) _ _ (h .1 .0) (h .1 .1))
@@ -93,14 +93,14 @@ module _ (s : Start) (I W : Log → Book → Type 0) (D : Log → Book → Answe
   safe-step l p i (answers {r = r} t u a) h =
       rw (a .log l, a .reaction) (enter (Replied r ∷ l) u (answer p r (a .item) t u l (a .stands) (a .takes) h))
 
-  pub always : (h : History) → SafePhase s I W D (logOf s h) (phaseAt s h)
-  unfolding logOf phaseAt start startUnless handed
+  pub always : (h : History) → SafePhase s I W D (logOf s h) (phaseAfter s h)
+  unfolding logOf phaseAfter start startUnless handed
   always [] = go (refusedStart s) refl
     where
       go : (r : Option ℕ) → refusedStart s ≡ r → SafePhase s I W D (handed (startUnless r s .output)) (startUnless r s .phase)
       go (some n) e = tt
       go none e = rw append-nil at (start-on [] (usedAxes (s .capabilities)) true tt e)
-  always (i ∷ past) = safe-step (logOf s past) (phaseAt s past) i (step (phaseAt s past) i) (always past)
+  always (i ∷ past) = safe-step (logOf s past) (phaseAfter s past) i (step (phaseAfter s past) i) (always past)
 
 -- the invariant at the book that a reading shows
 pub shows : (s : Start) (I : Log → Book → Type 0) (D : Log → Book → Answer → Type 0) (l : Log) (p : Phase) (b : Book) → SafePhase s I I D l p

@@ -21,12 +21,13 @@ use Rattle.model.specs.declared.RuntimeState.the-variants as State
 use Rattle.model.specs.Lists.{any}
 use Rattle.model.specs.Reasons.{number}
 use Rattle.model.specs.Soundness.{axisUsed}
-use Rattle.rules.specs.Book.{Book, leaseAt, withLeases, withActive, withReceipts, withNextReceipt, withNextLease, withEpoch, withFlags, withStateAt, withLastTick, withState}
+use Rattle.rules.specs.Book.{Book, leaseAt}
+use Rattle.rules.specs.With.{withLeases, withActive, withReceipts, withNextReceipt, withNextLease, withEpoch, withFlags, withStateAt, withLastTick, withState}
 use Rattle.rules.specs.Receipts.{top, bumpTo, bump, kept}
 use Rattle.rules.specs.Admission.{isArmed, isEstopped, isSome, axes}
 use Rattle.rules.specs.Rules.{usedAxes, bumpEpoch, refreshed, refreshState, cleared, tripped, meetsEstop, granted}
 use Rattle.rules.specs.Protocol.{Start, opening}
-use Rattle.rules.specs.Admissible.{Mem}
+use Rattle.rules.specs.Lists.{Mem}
 use Rattle.rules.specs.StateFacts.{LeaseStands, NoLease}
 use Rattle.rules.proofs.Axes.{low-axis, mem-used}
 use Rattle.rules.proofs.Keeps.{at-set, isReady, tripped-not-ready}

@@ -24,7 +24,8 @@ use Rattle.model.specs.Reasons.{number}
 use Rattle.model.specs.Soundness.{axisUsed}
 use Rattle.model.specs.Words.{permits}
 use Rattle.model.proofs.Tests.{and-both}
-use Rattle.rules.specs.Book.{Book, activeAt, withActive, withReplay, withEpoch, withFlags, withStateAt, withLastTick, withState, withInvalidCount, withEstopSeen}
+use Rattle.rules.specs.Book.{Book, activeAt}
+use Rattle.rules.specs.With.{withActive, withReplay, withEpoch, withFlags, withStateAt, withLastTick, withState, withInvalidCount, withEstopSeen}
 use Rattle.rules.specs.Receipts.{isRejected, numbered, event, Progress, notSent, orderReceipt}
 use Rattle.rules.specs.Interaction.{Answer, Returned, Polled, Succeeded, Leased, Refused, Submitted, Interaction, Done, Observe}
 use Rattle.rules.specs.Admission.{Check, check, firstFailing, holdsOf, isArmed, isEstopped, isFaulted, isStale, ready, validRequest, axes, acquireChecks, renewChecks, heldAxis, leaseOn, heldLease, orderCapability, orderLease, verdict, validate, admission}

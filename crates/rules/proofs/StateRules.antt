@@ -17,7 +17,8 @@ use Rattle.model.specs.declared.Reason.the-variants as Reason
 use Rattle.model.specs.declared.Receipt.{Receipt}
 use Rattle.model.specs.declared.RuntimeState.the-variants as State
 use Rattle.model.specs.Lists.{any}
-use Rattle.rules.specs.Book.{Book, leaseAt, activeAt, withLeases, withActive, withReceipts, withNextReceipt, withEpoch, withLastTick, withState}
+use Rattle.rules.specs.Book.{Book, leaseAt, activeAt}
+use Rattle.rules.specs.With.{withLeases, withActive, withReceipts, withNextReceipt, withEpoch, withLastTick, withState}
 use Rattle.rules.specs.Receipts.{isRejected, numbered, kept, event}
 use Rattle.rules.specs.Interaction.{Answer, Interaction}
 use Rattle.rules.specs.Admission.{axes, isSome, isArmed, isStale}

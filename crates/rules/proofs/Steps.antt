@@ -11,8 +11,8 @@ use Rattle.model.specs.declared.Receipt.{Receipt}
 use Rattle.rules.specs.Book.{Book}
 use Rattle.rules.specs.Interaction.{Interaction, Done, Observe, Execute, Fallback, Record}
 use Rattle.rules.specs.Protocol.{Call, Reply, Observed, Executed, FellBack, Recorded, Reading, Input, Calls, Replies, Reads, Item, ItemObserve, ItemExecute, ItemFallback, ItemRecord, Start, Wait, OnObserve, OnExecute, OnFallback, OnRecord, Phase, Starting, Gone, Idle, Waiting, itemOf, bookIn, resume, proceed, startFrom, called, resumed, startReplied, replied, shown, effect, apply, react}
-use Rattle.rules.specs.Log.{Replied, Handed, Ended, Log, handed, tookEffect, arrived, extended, opened}
-use Rattle.rules.specs.Claim.{Takes, observed, executed, fellBack, recorded}
+use Rattle.rules.specs.Log.{Replied, Handed, Ended, Log, handed, tookEffect, arrived, logged, opened}
+use Rattle.rules.specs.Way.{Takes, observed, executed, fellBack, recorded}
 
 -- the phase in which an interaction waits
 pub data Stands : Interaction → Phase → Type 0 where
@@ -54,7 +54,7 @@ start-effective s [] false = refl
 -- the input leaves phase and log as they were
 pub record Stays (p : Phase) (i : Input) : Type 0 where
   pub phase : react p i .phase ≡ p
-  pub log : (l : Log) → extended i (react p i .output) l ≡ l
+  pub log : (l : Log) → logged i (react p i .output) l ≡ l
   pub book : (b old : Option Book) → opened i (react p i .output) b old ≡ old
 
 -- the reply that is awaited
@@ -63,7 +63,7 @@ pub record Answered (p : Phase) (r : Reply) (t u : Interaction) : Type 0 where
   pub item : Item
   pub takes : Takes t r item u
   pub reaction : react p (Replies r) ≡ proceed u
-  pub log : (l : Log) → extended (Replies r) (react p (Replies r) .output) l ≡ eventAt u ++ (Replied r ∷ l)
+  pub log : (l : Log) → logged (Replies r) (react p (Replies r) .output) l ≡ eventAt u ++ (Replied r ∷ l)
 
 pub data Step : Phase → Input → Type 0 where
   stays : {p : Phase} {i : Input} → Stays p i → Step p i
@@ -72,7 +72,7 @@ pub data Step : Phase → Input → Type 0 where
   answers : {p : Phase} {r : Reply} (t u : Interaction) → Answered p r t u → Step p (Replies r)
 
 reply-step : (w : Wait) (r : Reply) → Step (Waiting w) (Replies r)
-unfolding react apply effect replied resumed resume itemOf handed tookEffect arrived extended opened
+unfolding react apply effect replied resumed resume itemOf handed tookEffect arrived logged opened
 reply-step (OnObserve axis b k) (Observed o) = answers (Observe axis b k) (k o) record { stands = atObserve; item = ItemObserve axis; takes = observed; reaction = refl; log = λ l. simp (handed-event, effective) }
 reply-step (OnExecute c p b k) (Executed ok) = answers (Execute c p b k) (k ok) record { stands = atExecute; item = ItemExecute c p; takes = executed; reaction = refl; log = λ l. simp (handed-event, effective) }
 reply-step (OnFallback axis r b k) (FellBack ok) = answers (Fallback axis r b k) (k ok) record { stands = atFallback; item = ItemFallback axis r; takes = fellBack; reaction = refl; log = λ l. simp (handed-event, effective) }
@@ -91,7 +91,7 @@ reply-step (OnRecord r b k) (Executed ok) = stays record { phase = refl; log = �
 reply-step (OnRecord r b k) (FellBack ok) = stays record { phase = refl; log = λ l. refl; book = λ b old. refl }
 
 start-step : (s : Start) (axis : ℕ) (rest : List ℕ) (good : Bool) (r : Reply) → Step (Starting s axis rest good) (Replies r)
-unfolding react apply effect replied startReplied handed tookEffect arrived extended opened
+unfolding react apply effect replied startReplied handed tookEffect arrived logged opened
 start-step s axis rest good (FellBack ok) = tries s axis rest good ok
 start-step s axis rest good (Observed o) = stays record { phase = refl; log = λ l. refl; book = λ b old. refl }
 start-step s axis rest good (Executed ok) = stays record { phase = refl; log = λ l. refl; book = λ b old. refl }
@@ -99,12 +99,12 @@ start-step s axis rest good Recorded = stays record { phase = refl; log = λ l. 
 
 -- a reading
 read-step : (p : Phase) (q : Reading) (o : Option Book) → bookIn p ≡ o → Stays p (Reads q)
-unfolding react apply effect shown handed tookEffect arrived extended opened
+unfolding react apply effect shown handed tookEffect arrived logged opened
 read-step p q none e = record { phase = refl; log = λ l. rw e; book = λ b old. refl }
 read-step p q (some b) e = record { phase = refl; log = λ l. rw e; book = λ b old. refl }
 
 pub step : (p : Phase) (i : Input) → Step p i
-unfolding react apply effect called replied handed tookEffect arrived extended opened
+unfolding react apply effect called replied handed tookEffect arrived logged opened
 step p (Reads q) = stays (read-step p q (bookIn p) refl)
 step (Starting s axis rest good) (Calls c) = stays record { phase = refl; log = λ l. refl; book = λ b old. refl }
 step (Starting s axis rest good) (Replies r) = start-step s axis rest good r

@@ -9,12 +9,13 @@ use borrow.Author.Tests.{eq-eqb, ne-eqb}
 use Rattle.model.specs.declared.Reason.the-variants as Reason
 use Rattle.model.specs.declared.RuntimeState.{RuntimeState}
 use Rattle.model.specs.declared.RuntimeState.the-variants as State
-use Rattle.rules.specs.Book.{Book, withLeases, withActive, withReceipts, withNextReceipt, withEpoch, withFlags, withLastTick, withState, withEstopSeen}
+use Rattle.rules.specs.Book.{Book}
+use Rattle.rules.specs.With.{withLeases, withActive, withReceipts, withNextReceipt, withEpoch, withFlags, withLastTick, withState, withEstopSeen}
 use Rattle.rules.specs.Receipts.{kept}
 use Rattle.rules.specs.Interaction.{Answer, Returned, Polled, Interaction, Done}
 use Rattle.rules.specs.Rules.{usedAxes, bumpEpoch, cleared, fallback, tripped, fallbacks, trip, masked, emergencyStop, pollEstop}
 use Rattle.rules.specs.Protocol.{Call, EmergencyStop, PollEstop, Calls, Answers, Start, Idle, begin, proceed, called, effect, apply, react}
-use Rattle.rules.specs.Log.{History, phaseAt, Log, logOf}
+use Rattle.rules.specs.Log.{History, phaseAfter, Log, logOf}
 use Rattle.rules.specs.StopFacts.{Unready, InEstop, Halted, Throughout, Unlifted, Stopped, BlocksDispatch, StopFacts}
 use Rattle.rules.proofs.Safe.{Safe, SafePhase, always}
 use Rattle.rules.proofs.Once.{receipt-reports}
@@ -29,12 +30,12 @@ use Rattle.rules.proofs.Dispatched.{dispatch-admissible}
 
 -- ---- an idle book
 
-tidy-at : (s : Start) (h : History) (b : Book) → phaseAt s h ≡ Idle b → Tidy s b
+tidy-at : (s : Start) (h : History) (b : Book) → phaseAfter s h ≡ Idle b → Tidy s b
 tidy-at s h b e =
     subst (λ p. SafePhase s (λ l b. Tidy s b) (Seen s) (End s) (logOf s h) p) e
     (always s (λ l b. Tidy s b) (Seen s) (End s) (λ l b a k. k .0) (λ l plain sound. tidy-opening s) (end-call s) h)
 
-idle-stopped : (s : Start) (h : History) (b : Book) → phaseAt s h ≡ Idle b → Unready (b .state) → Stopped (phaseAt s h)
+idle-stopped : (s : Start) (h : History) (b : Book) → phaseAfter s h ≡ Idle b → Unready (b .state) → Stopped (phaseAfter s h)
 idle-stopped s h b e u = subst Stopped (sym e) (u, state-facts s h .stopped-no-lease b e (λ armed. subst Unready armed u))
 
 -- ---- emergency_stop and poll_estop
@@ -86,15 +87,15 @@ abbrev StoppedWith : Answer → Book → Answer → Type 0
 StoppedWith x b a = Halted InEstop b × (a ≡ x)
 
 -- which is no success, and so the phase after it blocks dispatch
-stopped-after : (s : Start) (h : History) (b : Book) (c : Call) (x : Answer) → phaseAt s h ≡ Idle b → Other x
-    → Throughout InEstop (StoppedWith x) (begin c b) → BlocksDispatch (phaseAt s (Calls c ∷ h))
-unfolding phaseAt
+stopped-after : (s : Start) (h : History) (b : Book) (c : Call) (x : Answer) → phaseAfter s h ≡ Idle b → Other x
+    → Throughout InEstop (StoppedWith x) (begin c b) → BlocksDispatch (phaseAfter s (Calls c ∷ h))
+unfolding phaseAfter
 stopped-after s h b c x idle o t =
     let t′ =
     less InEstop InEstop (StoppedWith x) (Unlifted InEstop) (λ y e. e) (λ b a k. (k .0, λ e. subst Other (sym (k .1) ∙ e) o)) (begin c b) t in
     subst (λ p. BlocksDispatch (react p (Calls c) .phase)) (sym idle) (blocks-dispatch _ (blocks InEstop b c t′))
 
-module _ (s : Start) (h : History) (b : Book) (idle : phaseAt s h ≡ Idle b) where
+module _ (s : Start) (h : History) (b : Book) (idle : phaseAfter s h ≡ Idle b) where
   on-used : OnlyOn (usedAxes (b .capabilities)) b
   on-used = only-used s b (tidy-at s h b idle .0 .0 .0)
 
@@ -104,7 +105,7 @@ module _ (s : Start) (h : History) (b : Book) (idle : phaseAt s h ≡ Idle b) wh
       throughout InEstop (StoppedWith Returned) [] (begin (EmergencyStop now) b)
       (stops (λ l b a. StoppedWith Returned b a) now [] b (λ b′. Done b′ Returned) tt on-used (λ l′ b′ k. (k, refl)))
 
-  pub stop-blocks : (now : ℕ) → BlocksDispatch (phaseAt s (Calls (EmergencyStop now) ∷ h))
+  pub stop-blocks : (now : ℕ) → BlocksDispatch (phaseAfter s (Calls (EmergencyStop now) ∷ h))
   stop-blocks now = stopped-after s h b (EmergencyStop now) Returned idle tt (stop-throughout now)
 
   pub raise-throughout : (raised now : ℕ) → raised ≢ b .estopSeen
@@ -116,7 +117,7 @@ module _ (s : Start) (h : History) (b : Book) (idle : phaseAt s h ≡ Idle b) wh
       (stops (λ l b a. StoppedWith (Polled true) b a) now [] (withEstopSeen raised b) (λ b′. Done b′ (Polled true)) tt on-used
       (λ l′ b′ k. (k, refl))))
 
-  pub raise-blocks : (raised now : ℕ) → raised ≢ b .estopSeen → BlocksDispatch (phaseAt s (Calls (PollEstop raised now) ∷ h))
+  pub raise-blocks : (raised now : ℕ) → raised ≢ b .estopSeen → BlocksDispatch (phaseAfter s (Calls (PollEstop raised now) ∷ h))
   raise-blocks raised now new = stopped-after s h b (PollEstop raised now) (Polled true) idle tt (raise-throughout raised now new)
 
 pub seen-raise : (b : Book) (now : ℕ)

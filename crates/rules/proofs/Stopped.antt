@@ -12,15 +12,16 @@ use Rattle.model.specs.declared.Reason.{Reason}
 use Rattle.model.specs.declared.RuntimeState.{RuntimeState}
 use Rattle.model.specs.declared.RuntimeState.the-variants as State
 use Rattle.model.specs.Reasons.{number}
-use Rattle.rules.specs.Book.{Book, withLeases, withActive, withReceipts, withNextReceipt, withEpoch, withFlags, withStateAt, withLastTick, withState, withInvalidCount, withEstopSeen}
+use Rattle.rules.specs.Book.{Book}
+use Rattle.rules.specs.With.{withLeases, withActive, withReceipts, withNextReceipt, withEpoch, withFlags, withStateAt, withLastTick, withState, withInvalidCount, withEstopSeen}
 use Rattle.rules.specs.Receipts.{kept}
 use Rattle.rules.specs.Interaction.{Answer, Returned, Succeeded, Refused, Interaction, Done, Observe, Execute, Fallback, Record}
 use Rattle.rules.specs.Admission.{Check, firstFailing, holdsOf, isEstopped, isFaulted, ready, axes, acquireChecks, renewChecks, axisHeld, heldAxis, orderCapability, orderLease, admission, verdict, validate}
 use Rattle.rules.specs.Rules.{bumpEpoch, refreshed, refreshState, cleared, tripped, updateState, recovered, recoverLocal, grant, acquire, renewed, renew, canceled, cancel, admit, submit}
 use Rattle.rules.specs.Protocol.{Call, Tick, UpdateState, EmergencyStop, PollEstop, RecoverLocal, Acquire, Renew, Cancel, Submit, Reply, Input, Calls, Replies, Reads, Item, ItemObserve, ItemExecute, ItemFallback, ItemRecord, Hands, Answers, OnObserve, OnExecute, OnFallback, OnRecord, Phase, Starting, Gone, Idle, Waiting, waitBook, bookIn, Reaction, called, shown, effect, apply, begin, proceed, react}
 use Rattle.rules.specs.Lives.{outputsFrom, phaseFrom}
-use Rattle.rules.specs.Log.{Took, Replied, Handed, Ended, Log, handed, tookEffect, arrived, extended}
-use Rattle.rules.specs.Claim.{Takes, observed, executed, fellBack, recorded}
+use Rattle.rules.specs.Log.{Took, Replied, Handed, Ended, Log, handed, tookEffect, arrived, logged}
+use Rattle.rules.specs.Way.{Takes, observed, executed, fellBack, recorded}
 use Rattle.rules.specs.StateFacts.{NoLease}
 use Rattle.rules.specs.StopFacts.{Unready, InEstop, Halted, Throughout, Rests, Lifted, Unlifted, Stopped, Blocked, NoneUntilSuccess, Unrecovered, StillBlocked, BlocksDispatch}
 use Rattle.rules.proofs.Steps.{Stands, atObserve, atExecute, atFallback, atRecord, Stays, Step, stays, tries, begins, answers, step}
@@ -208,13 +209,13 @@ same-answer e = cc
 
 -- an input that leaves the phase as it was hands out nothing, and answers nothing
 hands-none : (p : Phase) (i : Input) → Stays p i → (item : Item) → react p i .output ≢ Hands item
-unfolding extended handed
-hands-none p i st item e = let l = subst (λ out. extended i out [] ≡ []) e (st .log []) in clash (cc)
+unfolding logged handed
+hands-none p i st item e = let l = subst (λ out. logged i out [] ≡ []) e (st .log []) in clash (cc)
 
 answers-none : (p : Phase) (i : Input) → Stays p i → (a : Answer) → react p i .output ≢ Answers a
-unfolding extended handed arrived tookEffect react apply effect shown
-answers-none p (Calls c) st a e = let l = subst (λ out. extended (Calls c) out [] ≡ []) e (st .log []) in clash (cc)
-answers-none p (Replies r) st a e = let l = subst (λ out. extended (Replies r) out [] ≡ []) e (st .log []) in clash (cc)
+unfolding logged handed arrived tookEffect react apply effect shown
+answers-none p (Calls c) st a e = let l = subst (λ out. logged (Calls c) out [] ≡ []) e (st .log []) in clash (cc)
+answers-none p (Replies r) st a e = let l = subst (λ out. logged (Replies r) out [] ≡ []) e (st .log []) in clash (cc)
 answers-none p (Reads q) st a e = go (bookIn p) e
   where
     go : (o : Option Book) → shown q o ≢ Answers a

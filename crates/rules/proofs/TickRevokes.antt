@@ -9,15 +9,16 @@ use native.Mathlib.Omega.{arith}
 use Rattle.model.specs.declared.Lease.{Lease}
 use Rattle.model.specs.declared.Reason.{Reason}
 use Rattle.model.specs.declared.RuntimeState.the-variants as State
-use Rattle.rules.specs.Book.{Book, leaseAt, withLeases, withActive, withReceipts, withNextReceipt, withEpoch, withLastTick, withState}
+use Rattle.rules.specs.Book.{Book, leaseAt}
+use Rattle.rules.specs.With.{withLeases, withActive, withReceipts, withNextReceipt, withEpoch, withLastTick, withState}
 use Rattle.rules.specs.Receipts.{top, kept}
 use Rattle.rules.specs.Interaction.{Answer, Returned, Done}
 use Rattle.rules.specs.Admission.{axes}
-use Rattle.rules.specs.Admissible.{Mem}
+use Rattle.rules.specs.Lists.{Mem}
 use Rattle.rules.specs.Rules.{bumpEpoch, cleared, tick}
 use Rattle.rules.specs.Protocol.{Reply, Item, ItemFallback, Start}
 use Rattle.rules.specs.Log.{Event, Handed, Log}
-use Rattle.rules.specs.Claim.{Runs}
+use Rattle.rules.specs.Way.{Runs}
 use Rattle.rules.specs.StateFacts.{NoLease, Revoked}
 use Rattle.rules.proofs.Axes.{mem-reverse}
 use Rattle.rules.proofs.Safe.{Safe}

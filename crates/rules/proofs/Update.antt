@@ -13,13 +13,15 @@ use Rattle.model.specs.declared.Reason.{Reason}
 use Rattle.model.specs.declared.Reason.the-variants as Reason
 use Rattle.model.specs.Reasons.{number}
 use Rattle.model.specs.Words.{permits}
-use Rattle.rules.specs.Book.{Book, activeAt, withLeases, withActive, withReceipts, withNextReceipt, withEpoch, withFlags, withStateAt, withLastTick, withState}
+use Rattle.rules.specs.Book.{Book, activeAt}
+use Rattle.rules.specs.With.{withLeases, withActive, withReceipts, withNextReceipt, withEpoch, withFlags, withStateAt, withLastTick, withState}
 use Rattle.rules.specs.Receipts.{kept, numbered}
 use Rattle.rules.specs.Interaction.{Returned, Interaction, Done}
 use Rattle.rules.specs.Admission.{holdsOf, axes}
 use Rattle.rules.specs.Rules.{bumpEpoch, refreshState, cleared, trip, fallbackOrTrip, exhausted, supervise, tick, preconditions, meetsEstop, flagged, newFlags, sense, updateState}
 use Rattle.rules.specs.Protocol.{UpdateState, ItemFallback, Start}
-use Rattle.rules.specs.Log.{Took, Handed, Ended, Log, callOf, seenRaise, stops, fallsFor, clockTripped, inForce, updated, flagsOf, bumps}
+use Rattle.rules.specs.Log.{Took, Handed, Ended, Log, callOf}
+use Rattle.rules.specs.Epoch.{seenRaise, stops, fallsFor, clockTripped, inForce, updated, flagsOf, bumps}
 use Rattle.rules.proofs.Axes.{some-used}
 use Rattle.rules.proofs.Safe.{Safe}
 use Rattle.rules.proofs.Keeps.{Shared, Unflagged, keeps-trip-from, keeps-fallback-or-trip, keeps-tick-on}

@@ -9,7 +9,8 @@ use Rattle.model.specs.declared.Reason.{Reason}
 use Rattle.model.specs.declared.Receipt.{Receipt}
 use Rattle.model.specs.declared.Submission.{Submission}
 use Rattle.model.specs.Words.{permits}
-use Rattle.rules.specs.Book.{Book, leaseAt, activeAt, withFlags, withStateAt, withLastTick, withState, withInvalidCount, withEstopSeen}
+use Rattle.rules.specs.Book.{Book, leaseAt, activeAt}
+use Rattle.rules.specs.With.{withFlags, withStateAt, withLastTick, withState, withInvalidCount, withEstopSeen}
 use Rattle.rules.specs.Receipts.{kept}
 use Rattle.rules.specs.Interaction.{Answer, Returned, Polled, Succeeded, Leased, Refused, Submitted, Interaction, Done}
 use Rattle.rules.specs.Admission.{holdsOf, isArmed, isStale, axes}

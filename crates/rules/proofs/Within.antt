@@ -4,13 +4,15 @@ use mathlib.Core.Bool.{Bool, false}
 use mathlib.Core.List.{_∷_, reverse}
 use mathlib.Core.Option.{some}
 use mathlib.Core.Path.{_≡_, refl, _∙_}
-use Rattle.rules.specs.Book.{Book, withLastTick, withState}
+use Rattle.rules.specs.Book.{Book}
+use Rattle.rules.specs.With.{withLastTick, withState}
 use Rattle.rules.specs.Receipts.{numbered}
 use Rattle.rules.specs.Interaction.{Answer, Interaction}
 use Rattle.rules.specs.Admission.{axes}
 use Rattle.rules.specs.Rules.{tick}
 use Rattle.rules.specs.Protocol.{Call, ItemFallback, Start}
-use Rattle.rules.specs.Log.{Event, Took, Replied, Handed, Ended, Log, callOf, observing, dispatching, seenRaise, stops, updated, flagsOf}
+use Rattle.rules.specs.Log.{Event, Took, Replied, Handed, Ended, Log, callOf, observing, dispatching}
+use Rattle.rules.specs.Epoch.{seenRaise, stops, updated, flagsOf}
 use Rattle.rules.proofs.Safe.{Safe}
 use Rattle.rules.proofs.Keeps.{Shared, beside, AnyReason, Guarded, Settled, keeps-tick}
 use Rattle.rules.proofs.Epochs.{flags-same, epochs-same}

@@ -2,7 +2,7 @@
 -- the checks that the rules run.
 use Prim.Native.Nat.{_+_, _-_, _^_, _≤_, _<_}
 use mathlib.Core.List.{List, [], _∷_}
-use mathlib.Core.Logic.{_⊎_, _≢_}
+use mathlib.Core.Logic.{_≢_}
 use mathlib.Core.Option.{some}
 use mathlib.Core.Path.{_≡_}
 use lib.Bits.{bitAnd}
@@ -14,13 +14,10 @@ use Rattle.model.specs.declared.Lease.{Lease}
 use Rattle.model.specs.declared.Replay.{Replay}
 use Rattle.model.specs.declared.RuntimeState.the-variants as State
 use Rattle.model.specs.declared.Submission.{Submission}
+use Rattle.rules.specs.Lists.{Mem}
 use Rattle.rules.specs.Book.{Book, leaseAt}
 use Rattle.rules.specs.Receipts.{top}
-use Rattle.rules.specs.Admission.{orderCapability}
-
-abbrev pub Mem : {A : Type 0} → A → List A → Type 0
-Mem a [] = ⊥
-Mem a (x ∷ xs) = (a ≡ x) ⊎ Mem a xs
+use Rattle.rules.specs.SoundStart.{Named}
 
 -- every parameter lies in its bounds
 abbrev pub Inside : List Bounds → List ℤ → Type 0
@@ -42,7 +39,7 @@ pub record Admissible (s : Submission) (b : Book) : Type 0 where
   -- 3 principal 0 or not the requester
   pub principal : (s .principal ≢ 0) × (s .principal ≡ s .action .requester)
   -- 8 no such capability
-  pub known : orderCapability s b ≡ some capability
+  pub known : Named (s .action .capability) (b .capabilities) capability
   -- 3 no lease, other id, other owner, capability bit clear
   pub leased : leaseAt b (capability .resource) ≡ some lease
   pub authority :

@@ -18,7 +18,8 @@ use Rattle.model.specs.Reasons.{number}
 use Rattle.model.specs.Records.{defaultConfig}
 use Rattle.model.specs.Soundness.{verifiable, conditions, sound}
 use Rattle.model.specs.Words.{shareNoBit, inside, permits}
-use Rattle.rules.specs.Book.{Book, withLeases, withActive, withReplay, withReceipts, withNextReceipt, withNextLease, withEpoch, withFlags, withStateAt, withLastTick, withState, withInvalidCount, withEstopSeen}
+use Rattle.rules.specs.Book.{Book}
+use Rattle.rules.specs.With.{withLeases, withActive, withReplay, withReceipts, withNextReceipt, withNextLease, withEpoch, withFlags, withStateAt, withLastTick, withState, withInvalidCount, withEstopSeen}
 use Rattle.rules.specs.Receipts.{bumpTo, isRejected, rejected, dropFirstRejected, evict, keep, kept, numbered, isFallback, event, axisOr255, orderReceipt}
 use Rattle.rules.specs.Interaction.{Answer, Returned, Polled, Succeeded, Leased, Refused, Submitted}
 use Rattle.rules.specs.Admission.{firstFailing, holdsOf, isEstopped, isFaulted, isArmed, isStale, ready, allowed, badDuration, validRequest, isFree, acquireChecks, isSome, withId, orderCapability, leaseFor, orderLease, hasBit, authorizes, wellFormed, isEntry, findEntry, replayed, validUntil, allContain, admission, verdict, validate}
@@ -31,6 +32,7 @@ use Rattle.rules.specs.Lives.{outputsFrom, phaseFrom}
 -- a call's answer, as far as 01 gives it
 pub data Said : Type 0 where
   Nothing : Said
+  Success : Said
   ALease : ℕ → ℕ → Said  -- id, expiry
   ANumber : ℕ → Said  -- the reason of a refusal
   AReceipt : ℕ → Decision → ℕ → ℕ → Said  -- number, decision, reason, original
@@ -39,7 +41,7 @@ pub data Said : Type 0 where
 unfoldable pub answerSaid : Answer → Said
 answerSaid Returned = Nothing
 answerSaid (Polled raised) = Other
-answerSaid Succeeded = Nothing
+answerSaid Succeeded = Success
 answerSaid (Leased l) = ALease (l .id) (l .«expires_at»)
 answerSaid (Refused reason) = ANumber (number reason)
 answerSaid (Submitted r) = AReceipt (r .«receipt_id») (r .decision) (number (r .reason)) (r .«original_receipt»)
@@ -59,13 +61,14 @@ lastSaid [] = Other
 lastSaid (o ∷ []) = said o
 lastSaid (o ∷ p ∷ rest) = lastSaid (p ∷ rest)
 
--- a kept receipt: number and reason
+-- a kept receipt: number, reason and axis
 pub record Line : Type 0 where
   pub receipt : ℕ
   pub reason : ℕ
+  pub axis : ℕ
 
-abbrev pub line : ℕ → ℕ → Line
-line n reason = record { receipt = n; reason = reason }
+abbrev pub line : ℕ → ℕ → ℕ → Line
+line n reason axis = record { receipt = n; reason = reason; axis = axis }
 
 -- what a history comes to: the last answer, the receipts kept, epoch and state
 pub record Outcome : Type 0 where
@@ -80,7 +83,7 @@ bookOutcome answer (some b) =
     some
     (record {
       answer = answer;
-      receipts = map (λ r. line (r .«receipt_id») (number (r .reason))) (b .receipts);
+      receipts = map (λ r. line (r .«receipt_id») (number (r .reason)) (r .resource)) (b .receipts);
       epoch = b .epoch;
       state = b .state;
     })
@@ -91,8 +94,8 @@ unfoldable pub theStart : Start
 theStart = record { config = defaultConfig; capabilities = profile; bootId = 42; now = 0; flags = 0 }
 
 -- the two used axes of the profile fall back, and succeed
-abbrev pub startReplies : List Input
-startReplies = Replies (FellBack true) ∷ Replies (FellBack true) ∷ []
+abbrev pub goodStart : List Input
+goodStart = Replies (FellBack true) ∷ Replies (FellBack true) ∷ []
 
 -- a fallback that succeeds, and its receipt
 abbrev pub fellBack : List Input
@@ -141,7 +144,7 @@ carriedOut first =
     ∷ []
 
 abbrev pub caseA : List Input
-caseA = startReplies ++ (acquire7 6 2000 0 ∷ Replies Recorded ∷ [])
+caseA = goodStart ++ (acquire7 6 2000 0 ∷ Replies Recorded ∷ [])
 
 abbrev pub caseC : List Input
 caseC = caseA ++ (drive (pos 300) 2 ∷ carriedOut (pos 300))
@@ -163,25 +166,25 @@ row inputs answer receipts epoch state = record { inputs = inputs; expected = re
 unfoldable pub cases : List Case
 cases =
     -- A: lease 1, expiry 2000, epoch 2, receipt 1; A2: 2001 ms: 10; A3: mask 14: 3
-    row caseA (ALease 1 2000) (line 1 24 ∷ []) 2 State.Armed
-    ∷ row (startReplies ++ (acquire7 6 2001 0 ∷ [])) (ANumber 10) [] 1 State.SafeIdle
-    ∷ row (startReplies ++ (acquire7 14 2000 0 ∷ [])) (ANumber 3) [] 1 State.SafeIdle
+    row caseA (ALease 1 2000) (line 1 24 0 ∷ []) 2 State.Armed
+    ∷ row (goodStart ++ (acquire7 6 2001 0 ∷ [])) (ANumber 10) [] 1 State.SafeIdle
+    ∷ row (goodStart ++ (acquire7 14 2000 0 ∷ [])) (ANumber 3) [] 1 State.SafeIdle
     -- B: after A, tick 50: nothing; B2: tick 51: receipts 2, 3 reason 13, epoch 4, Faulted
-    ∷ row (caseA ++ (Calls (Tick 50) ∷ [])) Nothing (line 1 24 ∷ []) 2 State.Armed
-    ∷ row (caseA ++ (Calls (Tick 51) ∷ fellBack ++ fellBack)) Nothing (line 1 24 ∷ line 2 13 ∷ line 3 13 ∷ []) 4 State.Faulted
+    ∷ row (caseA ++ (Calls (Tick 50) ∷ [])) Nothing (line 1 24 0 ∷ []) 2 State.Armed
+    ∷ row (caseA ++ (Calls (Tick 51) ∷ fellBack ++ fellBack)) Nothing (line 1 24 0 ∷ line 2 13 0 ∷ line 3 13 1 ∷ []) 4 State.Faulted
     -- C: Executed, receipt 2; C2: repeated: 4, original 2; C3: first parameter 1001: 1; 1000 passes
-    ∷ row caseC (AReceipt 2 Decision.Executed 0 0) (line 1 24 ∷ line 2 0 ∷ []) 2 State.Armed
-    ∷ row (caseC ++ (drive (pos 300) 2 ∷ Replies Recorded ∷ [])) (AReceipt 3 Decision.Rejected 4 2) (line 1 24 ∷ line 2 0 ∷ line 3 4 ∷ []) 2 State.Armed
-    ∷ row (caseA ++ (drive (pos 1001) 2 ∷ Replies Recorded ∷ [])) (AReceipt 2 Decision.Rejected 1 0) (line 1 24 ∷ line 2 1 ∷ []) 2 State.Armed
-    ∷ row (caseA ++ (drive (pos 1000) 2 ∷ carriedOut (pos 1000))) (AReceipt 2 Decision.Executed 0 0) (line 1 24 ∷ line 2 0 ∷ []) 2 State.Armed
+    ∷ row caseC (AReceipt 2 Decision.Executed 0 0) (line 1 24 0 ∷ line 2 0 0 ∷ []) 2 State.Armed
+    ∷ row (caseC ++ (drive (pos 300) 2 ∷ Replies Recorded ∷ [])) (AReceipt 3 Decision.Rejected 4 2) (line 1 24 0 ∷ line 2 0 0 ∷ line 3 4 0 ∷ []) 2 State.Armed
+    ∷ row (caseA ++ (drive (pos 1001) 2 ∷ Replies Recorded ∷ [])) (AReceipt 2 Decision.Rejected 1 0) (line 1 24 0 ∷ line 2 1 0 ∷ []) 2 State.Armed
+    ∷ row (caseA ++ (drive (pos 1000) 2 ∷ carriedOut (pos 1000))) (AReceipt 2 Decision.Executed 0 0) (line 1 24 0 ∷ line 2 0 0 ∷ []) 2 State.Armed
     -- D: flags 2 at 10: epoch 3; the order of C with epoch 3: 5; D2: after C, flags 2 at 20: axis 0 falls back, epoch 4, SafeIdle
-    ∷ row (caseA ++ (Calls (UpdateState 2 10) ∷ [])) Nothing (line 1 24 ∷ []) 3 State.Armed
-    ∷ row (caseA ++ (Calls (UpdateState 2 10) ∷ drive (pos 300) 3 ∷ Replies Recorded ∷ [])) (AReceipt 2 Decision.Rejected 5 0) (line 1 24 ∷ line 2 5 ∷ []) 3 State.Armed
-    ∷ row (caseC ++ (Calls (UpdateState 2 20) ∷ fellBack)) Nothing (line 1 24 ∷ line 2 0 ∷ line 3 5 ∷ []) 4 State.SafeIdle
+    ∷ row (caseA ++ (Calls (UpdateState 2 10) ∷ [])) Nothing (line 1 24 0 ∷ []) 3 State.Armed
+    ∷ row (caseA ++ (Calls (UpdateState 2 10) ∷ drive (pos 300) 3 ∷ Replies Recorded ∷ [])) (AReceipt 2 Decision.Rejected 5 0) (line 1 24 0 ∷ line 2 5 0 ∷ []) 3 State.Armed
+    ∷ row (caseC ++ (Calls (UpdateState 2 20) ∷ fellBack)) Nothing (line 1 24 0 ∷ line 2 0 0 ∷ line 3 5 0 ∷ []) 4 State.SafeIdle
     -- E: after A, stop at 5: epoch 4; `acquire` at 3: receipts 4, 5 reason 18, answer 11; E2: flags 0 at 6, recover at 6: epoch 7, SafeIdle
-    ∷ row stopped Nothing (line 1 24 ∷ line 2 11 ∷ line 3 11 ∷ []) 4 State.Estopped
-    ∷ row (stopped ++ (acquire7 6 2000 3 ∷ fellBack ++ fellBack)) (ANumber 11) (line 1 24 ∷ line 2 11 ∷ line 3 11 ∷ line 4 18 ∷ line 5 18 ∷ []) 6 State.Estopped
-    ∷ row (stopped ++ (Calls (UpdateState 0 6) ∷ Calls (RecoverLocal 6) ∷ fellBack ++ fellBack)) Nothing (line 1 24 ∷ line 2 11 ∷ line 3 11 ∷ line 4 26 ∷ line 5 26 ∷ []) 7 State.SafeIdle
+    ∷ row stopped Nothing (line 1 24 0 ∷ line 2 11 0 ∷ line 3 11 1 ∷ []) 4 State.Estopped
+    ∷ row (stopped ++ (acquire7 6 2000 3 ∷ fellBack ++ fellBack)) (ANumber 11) (line 1 24 0 ∷ line 2 11 0 ∷ line 3 11 1 ∷ line 4 18 0 ∷ line 5 18 1 ∷ []) 6 State.Estopped
+    ∷ row (stopped ++ (Calls (UpdateState 0 6) ∷ Calls (RecoverLocal 6) ∷ fellBack ++ fellBack)) Success (line 1 24 0 ∷ line 2 11 0 ∷ line 3 11 1 ∷ line 4 26 0 ∷ line 5 26 1 ∷ []) 7 State.SafeIdle
     ∷ []
 
 -- every case of the table comes out as 01 says

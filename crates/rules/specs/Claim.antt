@@ -9,60 +9,37 @@ use mathlib.Core.Option.{Option, some, none}
 use mathlib.Core.Path.{_≡_}
 use lib.Bits.{bitAnd}
 use lib.IntN.{ℤ}
-use lib.ListN.{length, take}
+use lib.ListN.{take, getElem?}
 use Rattle.model.specs.declared.Capability.{Capability}
-use Rattle.model.specs.declared.Config.{Config}
 use Rattle.model.specs.declared.Lease.{Lease}
 use Rattle.model.specs.declared.Observation.{Observation}
 use Rattle.model.specs.declared.Reason.{Reason}
 use Rattle.model.specs.declared.Reason.the-variants.{Startup}
 use Rattle.model.specs.declared.Receipt.{Receipt}
 use Rattle.model.specs.declared.Replay.{Replay}
+use Rattle.model.specs.declared.RuntimeState.the-variants as State
 use Rattle.model.specs.declared.Submission.{Submission}
-use Rattle.model.specs.Soundness.{sound}
-use Rattle.rules.specs.Book.{Book, leaseAt}
+use Rattle.rules.specs.Book.{Book, leaseAt, activeAt}
 use Rattle.rules.specs.Receipts.{top}
 use Rattle.rules.specs.Interaction.{Returned, Interaction, Done, Observe, Execute, Fallback, Record}
-use Rattle.rules.specs.Admission.{withId}
-use Rattle.rules.specs.Admissible.{Mem, Admissible}
+use Rattle.rules.specs.Lists.{Mem, Distinct}
+use Rattle.rules.specs.Admissible.{Admissible}
 use Rattle.rules.specs.Rules.{usedAxes, tick, replayCapacity}
-use Rattle.rules.specs.Protocol.{Submit, Reply, Observed, Executed, FellBack, Recorded, Item, ItemObserve, ItemExecute, ItemFallback, ItemRecord, Hands, Start, Idle, bookIn, opening}
+use Rattle.rules.specs.Protocol.{Submit, Reply, Observed, Executed, FellBack, Recorded, Item, ItemObserve, ItemExecute, ItemFallback, ItemRecord, Hands, Start, Idle, bookIn}
 use Rattle.rules.specs.Lives.{Life}
-use Rattle.rules.specs.Log.{History, phaseAt, outputAt, Log, Handed, logOf, bookBefore, callOf, Exchange, current, startItems, startReplies, executedIn, nextNumber, receiptsOf, observing, Admitted, admissions, entryOf, highest, isGrant, Tenancy, live, seenRaise, flagsOf, bumps}
-
--- no element stands twice
-abbrev pub Distinct : {A : Type 0} → List A → Type 0
-Distinct [] = Unit
-Distinct (x ∷ xs) = (¬ Mem x xs) × Distinct xs
-
--- the way of an interaction --------------------------------------------------------------------------------------------
-
--- an interaction takes the reply to its item, and goes on
-pub data Takes : Interaction → Reply → Item → Interaction → Type 0 where
-  observed : {axis : ℕ} {b : Book} {k : Option Observation → Interaction} {o : Option Observation}
-      → Takes (Observe axis b k) (Observed o) (ItemObserve axis) (k o)
-  executed : {c : ℕ} {p : List ℤ} {b : Book} {k : Bool → Interaction} {ok : Bool}
-      → Takes (Execute c p b k) (Executed ok) (ItemExecute c p) (k ok)
-  fellBack : {axis : ℕ} {r : Reason} {b : Book} {k : Bool → Interaction} {ok : Bool}
-      → Takes (Fallback axis r b k) (FellBack ok) (ItemFallback axis r) (k ok)
-  recorded : {r : Receipt} {b : Book} {k : Interaction} → Takes (Record r b k) Recorded (ItemRecord r) k
-
--- given these replies, to these items, in order, an interaction comes to stand at another
-pub data Runs : Interaction → List Reply → List Item → Interaction → Type 0 where
-  here : {t : Interaction} → Runs t [] [] t
-  then : {t t′ u : Interaction} {r : Reply} {i : Item} {rs : List Reply} {is : List Item}
-      → Takes t r i t′ → Runs t′ rs is u → Runs t (r ∷ rs) (i ∷ is) u
+use Rattle.rules.specs.Log.{History, phaseAfter, outputAfter, Log, Handed, logOf, bookBefore, callOf, Exchange, current, startItems, startReplies, executedIn, nextNumber, receiptsKept, observing, Admitted, admissions, entryOf, highest, isGrant, Tenancy, live}
+use Rattle.rules.specs.Epoch.{seenRaise, flagsOf, bumps}
+use Rattle.rules.specs.Way.{Ticked}
+use Rattle.rules.specs.SoundStart.{SoundStart, Named}
+use Rattle.rules.specs.Turns.{Turns}
+use Rattle.rules.specs.AnswerFacts.{AnswerFacts}
 
 -- an admission -----------------------------------------------------------------------------------------------------------
 
 -- a submission's opening tick, on the book before, has ended with this book, and every one of 01's checks holds in it
 pub record Passes (before : Book) (s : Submission) (x : Exchange) : Type 0 where
   pub book : Book
-  pub ticking : List Reply
-  pub tickItems : List Item
-  pub ticked : Runs (tick (s .now) before (λ b. Done b Returned)) ticking tickItems (Done book Returned)
-  pub later : List Reply
-  pub replies : x .replies ≡ ticking ++ later
+  pub ticked : Ticked (s .now) before x book
   pub admissible : Admissible s book
 
 -- and the next reply is a good observation
@@ -70,7 +47,7 @@ pub record Clears (before : Book) (s : Submission) (x : Exchange) : Type 0 where
   pub passes : Passes before s x
   pub seen : Observation
   pub after : List Reply
-  pub good : passes .later ≡ Observed (some seen) ∷ after
+  pub good : passes .ticked .later ≡ Observed (some seen) ∷ after
 
 -- the call in hand submits an order with this capability and these parameters
 pub record Carried (l : Log) (c : ℕ) (p : List ℤ) : Type 0 where
@@ -82,7 +59,7 @@ pub record Carried (l : Log) (c : ℕ) (p : List ℤ) : Type 0 where
 -- its principal holds the live lease that the order names, on the axis of its capability, with the capability's bit, unexpired
 pub record Leased (s : Start) (l : Log) (o : Submission) : Type 0 where
   pub capability : Capability
-  pub known : withId (o .action .capability) (s .capabilities) ≡ some capability
+  pub known : Named (o .action .capability) (s .capabilities) capability
   pub tenancy : Tenancy
   pub stands : live (capability .resource) l ≡ some tenancy
   pub lease : tenancy .lease ≡ o .action .«lease_id»
@@ -104,7 +81,7 @@ pub record Observing (s : Start) (l : Log) (axis : ℕ) : Type 0 where
   pub submission : Submission
   pub call : callOf l ≡ some (Submit submission)
   pub capability : Capability
-  pub known : withId (submission .action .capability) (s .capabilities) ≡ some capability
+  pub known : Named (submission .action .capability) (s .capabilities) capability
   pub own : axis ≡ capability .resource
   pub first : observing l ≡ false → AdmittedBy s l submission
 
@@ -139,15 +116,20 @@ abbrev pub nameOf : Replay → Name
 nameOf e = record { owner = e .owner; action = e .«action_id» }
 
 pub record BookFacts (s : Start) (l : Log) (b : Book) : Type 0 where
+  -- configuration, boot number and capabilities are the start's
+  pub config : b .config ≡ s .config
+  pub boot : b .bootId ≡ s .bootId
+  pub capabilities : b .capabilities ≡ s .capabilities
   -- a lease stands exactly while it is live
   pub standing : (axis : ℕ) (x : Lease) → leaseAt b axis ≡ some x → live axis l ≡ some (tenancyIn x)
   pub ended : (axis : ℕ) → leaseAt b axis ≡ none → live axis l ≡ none
+  pub home : (axis : ℕ) (x : Lease) → leaseAt b axis ≡ some x → x .resource ≡ axis
   -- 01: "its last sequence is the highest admitted under it, or 0"
   pub last : (axis : ℕ) (x : Lease) → leaseAt b axis ≡ some x → x .«last_sequence» ≡ highest (x .id) (admissions l)
   -- 01: "the replay ring is the last 32 admitted"
   pub replay : b .replay ≡ take replayCapacity (map entryOf (admissions l))
   -- the receipts kept are those handed out, and the next one's number counts them
-  pub receipts : b .receipts ≡ receiptsOf l
+  pub receipts : b .receipts ≡ receiptsKept l
   pub next : b .nextReceipt ≡ nextNumber l
   -- below the top of 64 bits their numbers rise, up to the last one given
   pub rising : b .nextReceipt < top → Rising (b .nextReceipt) (b .receipts)
@@ -161,23 +143,11 @@ pub record BookFacts (s : Start) (l : Log) (b : Book) : Type 0 where
 
 -- a start ----------------------------------------------------------------------------------------------------------------
 
--- none of the six fields is 0
-pub record SoundConfig (c : Config) : Type 0 where
-  pub watchdog : c .«watchdog_ms» ≢ 0
-  pub stateTtl : c .«state_ttl_ms» ≢ 0
-  pub maxLease : c .«max_lease_ms» ≢ 0
-  pub maxValid : c .«max_valid_for_ms» ≢ 0
-  pub invalidLimit : c .«invalid_limit» ≢ 0
-  pub estopMask : c .«estop_mask» ≢ 0
-
--- 01's checks of a start pass
-pub record SoundStart (s : Start) : Type 0 where
-  pub boot : s .bootId ≢ 0
-  pub some : s .capabilities ≢ []
-  pub few : length (s .capabilities) ≤ 16
-  pub config : SoundConfig (s .config)
-  pub each : (c : Capability) → Mem c (s .capabilities) → sound c ≡ true
-  pub ids : Distinct (map (λ c. c .id) (s .capabilities))
+-- each is above the one before
+abbrev pub Increasing : List ℕ → Type 0
+Increasing [] = Unit
+Increasing (i ∷ []) = Unit
+Increasing (i ∷ j ∷ is) = (i < j) × Increasing (j ∷ is)
 
 -- the start handed out a startup fallback on each used axis, rising, and each reply was good
 pub record StartedUp (s : Start) (l : Log) : Type 0 where
@@ -185,15 +155,50 @@ pub record StartedUp (s : Start) (l : Log) : Type 0 where
   pub items : startItems l ≡ map (λ axis. ItemFallback axis Startup) (usedAxes (s .capabilities))
   pub replies : startReplies l ≡ map (λ axis. FellBack true) (usedAxes (s .capabilities))
 
+-- the startup fallback on an axis is among the items of the start, and the reply at its place was good
+pub record StartedOn (axis : ℕ) (l : Log) : Type 0 where
+  pub place : ℕ
+  pub item : getElem? (startItems l) place ≡ some (ItemFallback axis Startup)
+  pub reply : getElem? (startReplies l) place ≡ some (FellBack true)
+
+-- 01: "It leaves epoch 1, next receipt 1, next lease 1, raise number seen 0, last tick and state stamp at its time .., and state Estopped if
+-- the first flags meet `estop_mask`, else SafeIdle"; "with no lease, order or receipt"
+pub record OpensSo (s : Start) (b : Book) : Type 0 where
+  pub configured : b .config ≡ s .config
+  pub booted : b .bootId ≡ s .bootId
+  pub listed : b .capabilities ≡ s .capabilities
+  pub leases : (axis : ℕ) → leaseAt b axis ≡ none
+  pub active : (axis : ℕ) → activeAt b axis ≡ none
+  pub replay : b .replay ≡ []
+  pub receipts : b .receipts ≡ []
+  pub nextReceipt : b .nextReceipt ≡ 1
+  pub nextLease : b .nextLease ≡ 1
+  pub epoch : b .epoch ≡ 1
+  pub flags : b .flags ≡ s .flags
+  pub stamp : b .stateAt ≡ s .now
+  pub lastTick : b .lastTick ≡ s .now
+  pub estopped : bitAnd (s .flags) (s .config .«estop_mask») ≢ 0 → b .state ≡ State.Estopped
+  pub idle : bitAnd (s .flags) (s .config .«estop_mask») ≡ 0 → b .state ≡ State.SafeIdle
+  pub count : b .invalidCount ≡ 0
+  pub seen : b .estopSeen ≡ 0
+
+-- 01: "An axis is used if a capability names it"; "rising"
+pub record AreUsed (cs : List Capability) (axes : List ℕ) : Type 0 where
+  pub named : (axis : ℕ) → Mem axis axes → (c : Capability) × Mem c cs × (c .resource ≡ axis)
+  pub all : (c : Capability) → Mem c cs → Mem (c .resource) axes
+  pub rising : Increasing axes
+
 -- the claim --------------------------------------------------------------------------------------------------------------
 
 pub record Claim (lives : List Life) : Type 0 where
+  -- who is heard: so that nothing below depends on what the runtime chooses to hear
+  pub turns : (s : Start) (h : History) → Turns s h
   -- "one order, all eleven fields alike, reaches `execute` at most once in all of them"
   pub once : Distinct (executedIn lives)
   -- "nothing but a submission reaches it"
-  pub only-submissions : (s : Start) (h : History) (c : ℕ) (p : List ℤ) → outputAt s h ≡ Hands (ItemExecute c p) → Carried (logOf s h) c p
+  pub only-submissions : (s : Start) (h : History) (c : ℕ) (p : List ℤ) → outputAfter s h ≡ Hands (ItemExecute c p) → Carried (logOf s h) c p
   -- "Nobody who lacks a live lease .. can have an order carried out"
-  pub live-lease : (s : Start) (h : History) (c : ℕ) (p : List ℤ) → outputAt s h ≡ Hands (ItemExecute c p)
+  pub live-lease : (s : Start) (h : History) (c : ℕ) (p : List ℤ) → outputAfter s h ≡ Hands (ItemExecute c p)
       → (k : Carried (logOf s h) c p) → Leased s (logOf s h) (k .submission)
   -- a call in hand began on a book
   pub begun : (s : Start) (h : History) (x : Exchange) → current (logOf s h) ≡ some x → (b : Book) × (bookBefore s h ≡ some b)
@@ -205,16 +210,23 @@ pub record Claim (lives : List Life) : Type 0 where
       → (o : Submission) → x .call ≡ Submit o
       → Mem (ItemExecute (o .action .capability) (o .action .parameters)) (x .items) ↔ Clears b o x
   -- "Before that, its life's startup fallback succeeded on every used axis."
-  pub startup-first : (s : Start) (h : History) (b : Book) → bookIn (phaseAt s h) ≡ some b → StartedUp s (logOf s h)
+  pub startup-first : (s : Start) (h : History) (c : ℕ) (p : List ℤ) → outputAfter s h ≡ Hands (ItemExecute c p)
+      → (k : Capability) → Mem k (s .capabilities) → StartedOn (k .resource) (logOf s h)
+  -- the same of every runtime, for all used axes at once
+  pub started-up : (s : Start) (h : History) (b : Book) → bookIn (phaseAfter s h) ≡ some b → StartedUp s (logOf s h)
   -- "Where 01's checks of a start pass, these fallbacks succeed and no cut comes first, there is a runtime."
   pub there-is-a-runtime : (s : Start) (h : History) → SoundStart s
       → startReplies (logOf s h) ≡ map (λ axis. FellBack true) (usedAxes (s .capabilities))
-      → ((b : Book) × (bookIn (phaseAt s h) ≡ some b)) × (callOf (logOf s h) ≡ none → phaseAt s h ≡ Idle (opening s))
+      → ((b : Book) × (bookIn (phaseAfter s h) ≡ some b)) × (callOf (logOf s h) ≡ none → (b : Book) × (phaseAfter s h ≡ Idle b) × OpensSo s b)
+  -- the used axes are those that capabilities name, rising
+  pub used-axes : (s : Start) → SoundStart s → AreUsed (s .capabilities) (usedAxes (s .capabilities))
   -- an observation is a submission's, on the axis of its capability; the lease and replay checks hold by the log alone
-  pub observes : (s : Start) (h : History) (axis : ℕ) → outputAt s h ≡ Hands (ItemObserve axis)
+  pub observes : (s : Start) (h : History) (axis : ℕ) → outputAfter s h ≡ Hands (ItemObserve axis)
       → (l : Log) × (logOf s h ≡ Handed (ItemObserve axis) ∷ l) × Observing s l axis
   -- a receipt has the next number; a grant comes only on a free axis
-  pub records : (s : Start) (h : History) (r : Receipt) → outputAt s h ≡ Hands (ItemRecord r)
+  pub records : (s : Start) (h : History) (r : Receipt) → outputAfter s h ≡ Hands (ItemRecord r)
       → (l : Log) × (logOf s h ≡ Handed (ItemRecord r) ∷ l) × Recording l r
+  -- an answer says what was handed out
+  pub answers : (s : Start) (h : History) → AnswerFacts s h
   -- the book keeps what the log says
-  pub book-facts : (s : Start) (h : History) (b : Book) → bookIn (phaseAt s h) ≡ some b → BookFacts s (logOf s h) b
+  pub book-facts : (s : Start) (h : History) (b : Book) → bookIn (phaseAfter s h) ≡ some b → BookFacts s (logOf s h) b

@@ -21,8 +21,8 @@ phaseFrom p (i ∷ is) = phaseFrom (react p i .phase) is
 unfoldable pub outputs : Life → List Output
 outputs l = start (l .start) .output ∷ outputsFrom (start (l .start) .phase) (l .inputs)
 
-unfoldable pub phaseOf : Life → Phase
-phaseOf l = phaseFrom (start (l .start) .phase) (l .inputs)
+unfoldable pub endOf : Life → Phase
+endOf l = phaseFrom (start (l .start) .phase) (l .inputs)
 
 unfoldable pub livesOutputs : List Life → List (List Output)
 livesOutputs ls = map outputs ls

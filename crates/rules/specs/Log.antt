@@ -1,10 +1,9 @@
 -- What the history of a life says about it, from its inputs and outputs alone. Histories and logs are newest first, so that each
 -- definition goes by the past alone, and a life that is cut is a shorter history.
 use Prim.Native.Nat.{ℕ, _+_, max}
-use mathlib.Core.Bool.{Bool, true, false, cond, not, _&&_, _||_}
+use mathlib.Core.Bool.{Bool, true, false, cond, _&&_}
 use mathlib.Core.List.{List, [], _∷_, _++_, map, reverse}
 use mathlib.Core.Option.{Option, some, none}
-use lib.Bits.{bitOr}
 use lib.Dec.{eqb}
 use Rattle.model.specs.declared.Action.{Action}
 use Rattle.model.specs.declared.Bounds.{Bounds}
@@ -12,14 +11,12 @@ use Rattle.model.specs.declared.Decision.{Decision}
 use Rattle.model.specs.declared.Decision.the-variants as Decision
 use Rattle.model.specs.declared.Receipt.{Receipt}
 use Rattle.model.specs.declared.Replay.{Replay}
-use Rattle.model.specs.declared.Reason.{Reason}
 use Rattle.model.specs.declared.Reason.the-variants as Reason
 use Rattle.model.specs.declared.Submission.{Submission}
 use Rattle.model.specs.Reasons.{number}
 use Rattle.rules.specs.Book.{Book}
 use Rattle.rules.specs.Receipts.{bump, receiptCapacity, keep}
 use Rattle.rules.specs.Interaction.{Answer}
-use Rattle.rules.specs.Admission.{isSome}
 use Rattle.rules.specs.Protocol.{Call, Tick, UpdateState, EmergencyStop, PollEstop, RecoverLocal, Acquire, Renew, Cancel, Submit, Reply, Input, Calls, Replies, Reads, Item, ItemObserve, ItemExecute, ItemFallback, ItemRecord, Output, Started, StartRefused, Hands, Answers, Reminds, Refuses, Shows, NoRuntime, Start, Phase, bookIn, start, react}
 use Rattle.rules.specs.Lives.{Life}
 
@@ -28,13 +25,13 @@ abbrev pub History : Type 0
 History = List Input
 
 -- where the runtime stands after a history, and what its newest input brought
-unfoldable pub phaseAt : Start → History → Phase
-phaseAt s [] = start s .phase
-phaseAt s (i ∷ past) = react (phaseAt s past) i .phase
+unfoldable pub phaseAfter : Start → History → Phase
+phaseAfter s [] = start s .phase
+phaseAfter s (i ∷ past) = react (phaseAfter s past) i .phase
 
-unfoldable pub outputAt : Start → History → Output
-outputAt s [] = start s .output
-outputAt s (i ∷ past) = react (phaseAt s past) i .output
+unfoldable pub outputAfter : Start → History → Output
+outputAfter s [] = start s .output
+outputAfter s (i ∷ past) = react (phaseAfter s past) i .output
 
 -- the log ------------------------------------------------------------------------------------------------------------
 
@@ -74,12 +71,12 @@ arrived (Calls c) out = cond (tookEffect out) (Took c ∷ []) []
 arrived (Replies r) out = cond (tookEffect out) (Replied r ∷ []) []
 arrived (Reads q) out = []
 
-unfoldable pub extended : Input → Output → Log → Log
-extended i out l = handed out ++ (arrived i out ++ l)
+unfoldable pub logged : Input → Output → Log → Log
+logged i out l = handed out ++ (arrived i out ++ l)
 
 unfoldable pub logOf : Start → History → Log
 logOf s [] = handed (start s .output)
-logOf s (i ∷ past) = extended i (react (phaseAt s past) i .output) (logOf s past)
+logOf s (i ∷ past) = logged i (react (phaseAfter s past) i .output) (logOf s past)
 
 -- the book on which the call in hand began
 unfoldable pub opened : Input → Output → Option Book → Option Book → Option Book
@@ -89,7 +86,7 @@ opened (Reads q) out b old = old
 
 unfoldable pub bookBefore : Start → History → Option Book
 bookBefore s [] = none
-bookBefore s (i ∷ past) = opened i (react (phaseAt s past) i .output) (bookIn (phaseAt s past)) (bookBefore s past)
+bookBefore s (i ∷ past) = opened i (react (phaseAfter s past) i .output) (bookIn (phaseAfter s past)) (bookBefore s past)
 
 -- what a log says --------------------------------------------------------------------------------------------------
 
@@ -143,22 +140,22 @@ startReplies (Ended a ∷ l) = startReplies l
 
 -- orders ---------------------------------------------------------------------------------------------------------------
 
-unfoldable pub submissionOf : Option Call → List Submission
-submissionOf none = []
-submissionOf (some (Tick now)) = []
-submissionOf (some (UpdateState flags now)) = []
-submissionOf (some (EmergencyStop now)) = []
-submissionOf (some (PollEstop raised now)) = []
-submissionOf (some (RecoverLocal now)) = []
-submissionOf (some (Acquire r now)) = []
-submissionOf (some (Renew r)) = []
-submissionOf (some (Cancel owner id now)) = []
-submissionOf (some (Submit s)) = s ∷ []
+unfoldable pub submissionIn : Option Call → List Submission
+submissionIn none = []
+submissionIn (some (Tick now)) = []
+submissionIn (some (UpdateState flags now)) = []
+submissionIn (some (EmergencyStop now)) = []
+submissionIn (some (PollEstop raised now)) = []
+submissionIn (some (RecoverLocal now)) = []
+submissionIn (some (Acquire r now)) = []
+submissionIn (some (Renew r)) = []
+submissionIn (some (Cancel owner id now)) = []
+submissionIn (some (Submit s)) = s ∷ []
 
 -- the submissions that reached execute: the call in hand, at each execute item
 unfoldable pub reaching : Item → Option Call → List Submission
 reaching (ItemObserve axis) c = []
-reaching (ItemExecute capability parameters) c = submissionOf c
+reaching (ItemExecute capability parameters) c = submissionIn c
 reaching (ItemFallback axis reason) c = []
 reaching (ItemRecord r) c = []
 
@@ -184,18 +181,18 @@ nextNumber (Handed i ∷ l) = counted i (nextNumber l)
 nextNumber (Ended a ∷ l) = nextNumber l
 
 -- the receipts kept: those of the record items, at most 64, oldest first
-unfoldable pub keptAfter : Item → List Receipt → List Receipt
-keptAfter (ItemObserve axis) rs = rs
-keptAfter (ItemExecute capability parameters) rs = rs
-keptAfter (ItemFallback axis reason) rs = rs
-keptAfter (ItemRecord r) rs = keep receiptCapacity rs r
+unfoldable pub keptWith : Item → List Receipt → List Receipt
+keptWith (ItemObserve axis) rs = rs
+keptWith (ItemExecute capability parameters) rs = rs
+keptWith (ItemFallback axis reason) rs = rs
+keptWith (ItemRecord r) rs = keep receiptCapacity rs r
 
-unfoldable pub receiptsOf : Log → List Receipt
-receiptsOf [] = []
-receiptsOf (Took c ∷ l) = receiptsOf l
-receiptsOf (Replied r ∷ l) = receiptsOf l
-receiptsOf (Handed i ∷ l) = keptAfter i (receiptsOf l)
-receiptsOf (Ended a ∷ l) = receiptsOf l
+unfoldable pub receiptsKept : Log → List Receipt
+receiptsKept [] = []
+receiptsKept (Took c ∷ l) = receiptsKept l
+receiptsKept (Replied r ∷ l) = receiptsKept l
+receiptsKept (Handed i ∷ l) = keptWith i (receiptsKept l)
+receiptsKept (Ended a ∷ l) = receiptsKept l
 
 -- whether the call in hand has observed
 unfoldable pub observing : Log → Bool
@@ -229,7 +226,7 @@ admittedAs n s = record { submission = s; receipt = n }
 
 -- the orders that were admitted, newest first: the call in hand, at its first observe item
 unfoldable pub admitting : Item → Bool → Option Call → ℕ → List Admitted
-admitting (ItemObserve axis) seen c n = cond seen [] (map (admittedAs n) (submissionOf c))
+admitting (ItemObserve axis) seen c n = cond seen [] (map (admittedAs n) (submissionIn c))
 admitting (ItemExecute capability parameters) seen c n = []
 admitting (ItemFallback axis reason) seen c n = []
 admitting (ItemRecord r) seen c n = []
@@ -321,107 +318,6 @@ live axis (Took c ∷ l) = live axis l
 live axis (Replied r ∷ l) = live axis l
 live axis (Handed i ∷ l) = holding axis i (callOf l) (live axis l)
 live axis (Ended a ∷ l) = live axis l
-
--- flags ----------------------------------------------------------------------------------------------------------------
-
--- the raise number of the last poll, 0 before the first
-unfoldable pub seenRaise : Log → ℕ
-seenRaise [] = 0
-seenRaise (Took (Tick now) ∷ l) = seenRaise l
-seenRaise (Took (UpdateState flags now) ∷ l) = seenRaise l
-seenRaise (Took (EmergencyStop now) ∷ l) = seenRaise l
-seenRaise (Took (PollEstop raised now) ∷ l) = raised
-seenRaise (Took (RecoverLocal now) ∷ l) = seenRaise l
-seenRaise (Took (Acquire r now) ∷ l) = seenRaise l
-seenRaise (Took (Renew r) ∷ l) = seenRaise l
-seenRaise (Took (Cancel owner id now) ∷ l) = seenRaise l
-seenRaise (Took (Submit s) ∷ l) = seenRaise l
-seenRaise (Replied r ∷ l) = seenRaise l
-seenRaise (Handed i ∷ l) = seenRaise l
-seenRaise (Ended a ∷ l) = seenRaise l
-
--- an emergency stop, or a poll whose raise number differs from the one last seen
-unfoldable pub stops : Event → Log → Bool
-stops (Took (Tick now)) l = false
-stops (Took (UpdateState flags now)) l = false
-stops (Took (EmergencyStop now)) l = true
-stops (Took (PollEstop raised now)) l = not (eqb raised (seenRaise l))
-stops (Took (RecoverLocal now)) l = false
-stops (Took (Acquire r now)) l = false
-stops (Took (Renew r)) l = false
-stops (Took (Cancel owner id now)) l = false
-stops (Took (Submit s)) l = false
-stops (Replied r) l = false
-stops (Handed i) l = false
-stops (Ended a) l = false
-
--- a fallback for this reason
-unfoldable pub fallsFor : Reason → Item → Bool
-fallsFor reason (ItemObserve axis) = false
-fallsFor reason (ItemExecute capability parameters) = false
-fallsFor reason (ItemFallback axis r) = eqb (number r) (number reason)
-fallsFor reason (ItemRecord r) = false
-
--- the call in hand fell back for Clock: its time is before the last tick (that trip always shows, since a start names a used axis)
-unfoldable pub clockTripped : Log → Bool
-clockTripped [] = false
-clockTripped (Took c ∷ l) = false
-clockTripped (Replied r ∷ l) = clockTripped l
-clockTripped (Handed i ∷ l) = fallsFor Reason.Clock i || clockTripped l
-clockTripped (Ended a ∷ l) = clockTripped l
-
--- From this event on an update in hand is in force. 01: "tick; return if now is before last tick; .. an estop bit trips 11; else active
--- orders that flags forbid fall back with 5". The tick falls back for other reasons than these two: a fallback for one of them shows
--- that the flags were set, and so does the call's end unless it returned at once.
-unfoldable pub inForce : Event → Log → Bool
-inForce (Took c) l = false
-inForce (Replied r) l = false
-inForce (Handed i) l = fallsFor Reason.Estop i || fallsFor Reason.Precondition i
-inForce (Ended a) l = not (clockTripped l)
-
--- the flags of the update in hand in place of these; another call has none
-unfoldable pub updated : Option Call → ℕ → ℕ
-updated none n = n
-updated (some (Tick now)) n = n
-updated (some (UpdateState flags now)) n = flags
-updated (some (EmergencyStop now)) n = n
-updated (some (PollEstop raised now)) n = n
-updated (some (RecoverLocal now)) n = n
-updated (some (Acquire r now)) n = n
-updated (some (Renew r)) n = n
-updated (some (Cancel owner id now)) n = n
-updated (some (Submit s)) n = n
-
--- the flags: those of the start, with the stop mask after a stop, replaced where an update comes into force
-unfoldable pub flagsOf : Start → Log → ℕ
-flagsOf s [] = s .flags
-flagsOf s (e ∷ l) =
-    cond (stops e l) (bitOr (flagsOf s l) (s .config .«estop_mask»))
-    (cond (inForce e l) (updated (callOf l) (flagsOf s l)) (flagsOf s l))
-
--- the epoch ------------------------------------------------------------------------------------------------------------
-
--- an update comes into force with other flags; those of a stop are set "without bumping for that"
-abbrev pub newFlagsAt : Start → Event → Log → Bool
-newFlagsAt s e l = inForce e l && not (eqb (updated (callOf l) (flagsOf s l)) (flagsOf s l))
-
--- a fallback of a call (those of the start come before any), or a grant
-unfoldable pub bumpsAt : Event → Log → Bool
-bumpsAt (Took c) l = false
-bumpsAt (Replied r) l = false
-bumpsAt (Handed (ItemObserve axis)) l = false
-bumpsAt (Handed (ItemExecute capability parameters)) l = false
-bumpsAt (Handed (ItemFallback axis reason)) l = isSome (callOf l)
-bumpsAt (Handed (ItemRecord r)) l = isGrant r
-bumpsAt (Ended a) l = false
-
-abbrev pub oneMoreIf : Bool → ℕ → ℕ
-oneMoreIf t n = cond t (n + 1) n
-
--- how many fallbacks of calls, grants and new flags there were
-unfoldable pub bumps : Start → Log → ℕ
-bumps s [] = 0
-bumps s (e ∷ l) = oneMoreIf (bumpsAt e l) (oneMoreIf (newFlagsAt s e l) (bumps s l))
 
 -- lives ----------------------------------------------------------------------------------------------------------------
 

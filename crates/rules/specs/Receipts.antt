@@ -13,7 +13,8 @@ use Rattle.model.specs.declared.Reason.{Reason}
 use Rattle.model.specs.declared.Receipt.{Receipt}
 use Rattle.model.specs.declared.Submission.{Submission}
 use Rattle.model.specs.Lists.{any}
-use Rattle.rules.specs.Book.{Book, withReceipts, withNextReceipt}
+use Rattle.rules.specs.Book.{Book}
+use Rattle.rules.specs.With.{withReceipts, withNextReceipt}
 
 -- numbers ------------------------------------------------------------------------------------------------------------
 

@@ -32,7 +32,8 @@ use Rattle.model.specs.Lists.{any}
 use Rattle.model.specs.Reasons.{number}
 use Rattle.model.specs.Soundness.{axisUsed}
 use Rattle.model.specs.Words.{shareNoBit, permits}
-use Rattle.rules.specs.Book.{Book, leaseAt, activeAt, withLeases, withActive, withReplay, withNextLease, withEpoch, withFlags, withStateAt, withLastTick, withState, withInvalidCount, withEstopSeen}
+use Rattle.rules.specs.Book.{Book, leaseAt, activeAt}
+use Rattle.rules.specs.With.{withLeases, withActive, withReplay, withNextLease, withEpoch, withFlags, withStateAt, withLastTick, withState, withInvalidCount, withEstopSeen}
 use Rattle.rules.specs.Receipts.{top, bumpTo, bump, kept, numbered, event, Progress, notSent, orderReceipt}
 use Rattle.rules.specs.Interaction.{Returned, Polled, Succeeded, Leased, Refused, Submitted, Interaction, Done, Observe, Execute, Fallback, Record}
 use Rattle.rules.specs.Admission.{firstFailing, isArmed, isEstopped, isStale, axes, isSome, holdsOf, acquireChecks, renewChecks, heldAxis, heldLease, orderCapability, replayed, validUntil, Verdict, Admits, Rejects, validate}

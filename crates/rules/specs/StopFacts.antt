@@ -16,11 +16,12 @@ use Rattle.model.specs.declared.RuntimeState.{RuntimeState}
 use Rattle.model.specs.declared.RuntimeState.the-variants as State
 use Rattle.rules.specs.Book.{Book, leaseAt}
 use Rattle.rules.specs.Interaction.{Answer, Returned, Polled, Succeeded, Submitted, Interaction, Done, Observe, Execute, Fallback, Record}
-use Rattle.rules.specs.Admission.{withId}
-use Rattle.rules.specs.Admissible.{Mem, Inside}
+use Rattle.rules.specs.SoundStart.{Named}
+use Rattle.rules.specs.Lists.{Mem}
+use Rattle.rules.specs.Admissible.{Inside}
 use Rattle.rules.specs.Protocol.{Call, EmergencyStop, PollEstop, RecoverLocal, Input, Calls, ItemExecute, Output, Hands, Answers, Start, OnObserve, OnExecute, OnFallback, OnRecord, Phase, Starting, Gone, Idle, Waiting, bookIn, begin, react}
 use Rattle.rules.specs.Lives.{outputsFrom, phaseFrom}
-use Rattle.rules.specs.Log.{History, phaseAt, outputAt, Log, logOf, dispatching}
+use Rattle.rules.specs.Log.{History, phaseAfter, outputAfter, Log, logOf, dispatching}
 use Rattle.rules.specs.Claim.{Carried}
 use Rattle.rules.specs.StateFacts.{NoLease}
 
@@ -105,7 +106,7 @@ pub record Dispatched (s : Start) (l : Log) (b : Book) (c : ℕ) (ps : List ℤ)
   pub ready : ¬ Unready (b .state)
   -- the capability with this id, and the lease that stands on its axis
   pub capability : Capability
-  pub known : withId c (s .capabilities) ≡ some capability
+  pub known : Named c (s .capabilities) capability
   pub lease : Lease
   pub leased : leaseAt b (capability .resource) ≡ some lease
   -- who asks, and in which life
@@ -146,23 +147,23 @@ pub record StopFacts : Type 0 where
       → Throughout Unready (Unlifted Unready) (begin c b)
   pub until-recovery : (p : Phase) → Blocked Unready p → (is : List Input) → Unrecovered is → StillBlocked Unready p is
   -- whatever made it so, an idle runtime that is Faulted or Estopped is stopped
-  pub idle-stopped : (s : Start) (h : History) (b : Book) → phaseAt s h ≡ Idle b → Unready (b .state) → Stopped (phaseAt s h)
+  pub idle-stopped : (s : Start) (h : History) (b : Book) → phaseAfter s h ≡ Idle b → Unready (b .state) → Stopped (phaseAfter s h)
   -- `emergency_stop_blocks_dispatch_until_local_recovery`. The state is Estopped at every wait of the call and at its end, and from then on
   -- until a recovery is called. It is not Estopped until one succeeds: a recovery that fails leaves Faulted, and dispatch stays blocked.
-  pub stop-throughout : (s : Start) (h : History) (b : Book) → phaseAt s h ≡ Idle b → (now : ℕ)
+  pub stop-throughout : (s : Start) (h : History) (b : Book) → phaseAfter s h ≡ Idle b → (now : ℕ)
       → Throughout InEstop (λ b′ a. Halted InEstop b′ × (a ≡ Returned)) (begin (EmergencyStop now) b)
-  pub stop-blocks : (s : Start) (h : History) (b : Book) → phaseAt s h ≡ Idle b → (now : ℕ)
-      → BlocksDispatch (phaseAt s (Calls (EmergencyStop now) ∷ h))
+  pub stop-blocks : (s : Start) (h : History) (b : Book) → phaseAfter s h ≡ Idle b → (now : ℕ)
+      → BlocksDispatch (phaseAfter s (Calls (EmergencyStop now) ∷ h))
   -- `raised_estop_signal_blocks_the_next_dispatch`: the same of a poll whose raise number differs from the one last seen; any other poll
   -- does nothing
-  pub raise-throughout : (s : Start) (h : History) (b : Book) → phaseAt s h ≡ Idle b → (raised now : ℕ) → raised ≢ b .estopSeen
+  pub raise-throughout : (s : Start) (h : History) (b : Book) → phaseAfter s h ≡ Idle b → (raised now : ℕ) → raised ≢ b .estopSeen
       → Throughout InEstop (λ b′ a. Halted InEstop b′ × (a ≡ Polled true)) (begin (PollEstop raised now) b)
-  pub raise-blocks : (s : Start) (h : History) (b : Book) → phaseAt s h ≡ Idle b → (raised now : ℕ) → raised ≢ b .estopSeen
-      → BlocksDispatch (phaseAt s (Calls (PollEstop raised now) ∷ h))
+  pub raise-blocks : (s : Start) (h : History) (b : Book) → phaseAfter s h ≡ Idle b → (raised now : ℕ) → raised ≢ b .estopSeen
+      → BlocksDispatch (phaseAfter s (Calls (PollEstop raised now) ∷ h))
   pub seen-raise : (b : Book) (now : ℕ)
       → react (Idle b) (Calls (PollEstop (b .estopSeen) now)) ≡ record { output = Answers (Polled false); phase = Idle b }
   -- `submit_dispatches_only_admissible_actions`
-  pub dispatch-admissible : (s : Start) (h : History) (c : ℕ) (ps : List ℤ) → outputAt s h ≡ Hands (ItemExecute c ps)
-      → (b : Book) × (bookIn (phaseAt s h) ≡ some b) × Dispatched s (logOf s h) b c ps
+  pub dispatch-admissible : (s : Start) (h : History) (c : ℕ) (ps : List ℤ) → outputAfter s h ≡ Hands (ItemExecute c ps)
+      → (b : Book) × (bookIn (phaseAfter s h) ≡ some b) × Dispatched s (logOf s h) b c ps
   -- and what it says of the receipt with which a submission ends
-  pub receipt-reports : (s : Start) (h : History) (r : Receipt) → outputAt s h ≡ Answers (Submitted r) → Reported (dispatching (logOf s h)) r
+  pub receipt-reports : (s : Start) (h : History) (r : Receipt) → outputAfter s h ≡ Answers (Submitted r) → Reported (dispatching (logOf s h)) r

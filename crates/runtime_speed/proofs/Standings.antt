@@ -19,7 +19,7 @@ use Rattle.steps.specs.declared.Answer.{Answer}
 use Rattle.steps.specs.declared.Runtime.{Runtime}
 use Rattle.steps.specs.declared.StartStep.{StartStep}
 use Rattle.steps.specs.declared.Step.{Step}
-use Rattle.steps.specs.Runtimes.{phaseAt, phaseIn, receiptsOf, RuntimeSound, Ready, Moves, Turns, StartTurns, after, afterStart, startWith as withList}
+use Rattle.steps.specs.Runtimes.{phaseAtStage, phaseIn, receiptsAt, RuntimeSound, Ready, Moves, Turns, StartTurns, after, afterStart, startWith as withList}
 use Rattle.runtime_speed.specs.Laps.{configWith, startWith, scoreIn, scoreOf, Stands}
 
 pub ready : (rt : Runtime) → RuntimeSound rt → Ready (rt .starting .stage) (rt .core) (rt .places)
@@ -53,11 +53,11 @@ begun rt a config l limit e k m =
 
 -- the score
 pub score-trying : (rt : Runtime) → rt .starting .stage ≡ Stage.Trying → 0 ≡ scoreOf (phaseIn rt)
-unfolding scoreOf scoreIn bookIn phaseAt startPhaseAt
+unfolding scoreOf scoreIn bookIn phaseAtStage startPhaseAt
 score-trying rt e = rw e
 
 pub score-gone : (rt : Runtime) → rt .starting .stage ≡ Stage.Gone → 0 ≡ scoreOf (phaseIn rt)
-unfolding scoreOf scoreIn bookIn phaseAt startPhaseAt
+unfolding scoreOf scoreIn bookIn phaseAtStage startPhaseAt
 score-gone rt e = rw e
 
 in-book : (b : Book) → ((b .epoch + b .nextReceipt) % 2 ^ 64 + b .lastTick) % 2 ^ 64 ≡ scoreIn (some b)
@@ -71,5 +71,5 @@ in-core core kept = in-book (bookOf core kept) ∙ ap scoreIn (sym (book-at (cor
 
 pub score-started : (rt : Runtime) → rt .starting .stage ≡ Stage.Started
     → ((rt .core .epoch + rt .core .«next_receipt») % 2 ^ 64 + rt .core .«last_tick») % 2 ^ 64 ≡ scoreOf (phaseIn rt)
-unfolding phaseAt
-score-started rt e = rw e (in-core (rt .core) (receiptsOf (rt .places) (rt .slots)))
+unfolding phaseAtStage
+score-started rt e = rw e (in-core (rt .core) (receiptsAt (rt .places) (rt .slots)))

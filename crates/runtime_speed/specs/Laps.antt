@@ -87,9 +87,9 @@ unfoldable pub leasedPhase : ℕ → Phase
 leasedPhase limit = follow (startedPhase limit) (Calls (Acquire request 1) ∷ Replies Recorded ∷ [])
 
 -- after some laps, numbered from 0
-unfoldable pub phaseAfter : Phase → (ℕ → List Input) → ℕ → Phase
-phaseAfter p lap zero = p
-phaseAfter p lap (suc n) = follow (phaseAfter p lap n) (lap n)
+unfoldable pub phaseOfLap : Phase → (ℕ → List Input) → ℕ → Phase
+phaseOfLap p lap zero = p
+phaseOfLap p lap (suc n) = follow (phaseOfLap p lap n) (lap n)
 
 -- the laps ---------------------------------------------------------------------------------------------------------------
 

@@ -8,7 +8,7 @@ ghost use Rattle.model.specs.Profile.{profile};
 ghost use Rattle.rules.specs.Protocol.{react, Calls, Acquire, Replies, FellBack, Recorded};
 ghost use Rattle.start.specs.Starts.{Listing};
 ghost use Rattle.steps.specs.Runtimes.{phaseIn, RuntimeSound, after, afterStart};
-ghost use Rattle.runtime_speed.specs.Laps.{configWith, request as requestOf, orderOf, seenReply, startedPhase, leasedPhase, phaseAfter, tickLap, leasedTickLap, acquireCancelLap, submitLap, rejectLap, scoreOf, Stands};
+ghost use Rattle.runtime_speed.specs.Laps.{configWith, request as requestOf, orderOf, seenReply, startedPhase, leasedPhase, phaseOfLap, tickLap, leasedTickLap, acquireCancelLap, submitLap, rejectLap, scoreOf, Stands};
 use machine::Core;
 use model::Action;
 use model::Bounds;
@@ -234,7 +234,7 @@ fn score(rt: Runtime) -> u64
 
 #[no_mangle]
 pub extern "C" fn runtime_speed_tick(laps: u64) -> u64
-    ensures { λ r. ⌜ r ≡ scoreOf (phaseAfter (startedPhase 32) tickLap laps) ⌝ }
+    ensures { λ r. ⌜ r ≡ scoreOf (phaseOfLap (startedPhase 32) tickLap laps) ⌝ }
 {
     let mut rt = started(32);
     let mut i: u64 = 0;
@@ -247,7 +247,7 @@ pub extern "C" fn runtime_speed_tick(laps: u64) -> u64
 
 #[no_mangle]
 pub extern "C" fn runtime_speed_leased_tick(laps: u64) -> u64
-    ensures { λ r. ⌜ r ≡ scoreOf (phaseAfter (leasedPhase 32) leasedTickLap laps) ⌝ }
+    ensures { λ r. ⌜ r ≡ scoreOf (phaseOfLap (leasedPhase 32) leasedTickLap laps) ⌝ }
 {
     let mut rt = leased(32);
     let mut i: u64 = 0;
@@ -260,7 +260,7 @@ pub extern "C" fn runtime_speed_leased_tick(laps: u64) -> u64
 
 #[no_mangle]
 pub extern "C" fn runtime_speed_acquire_cancel(laps: u64) -> u64
-    ensures { λ r. ⌜ r ≡ scoreOf (phaseAfter (startedPhase 32) acquireCancelLap laps) ⌝ }
+    ensures { λ r. ⌜ r ≡ scoreOf (phaseOfLap (startedPhase 32) acquireCancelLap laps) ⌝ }
 {
     let mut rt = started(32);
     let mut i: u64 = 0;
@@ -279,7 +279,7 @@ pub extern "C" fn runtime_speed_acquire_cancel(laps: u64) -> u64
 
 #[no_mangle]
 pub extern "C" fn runtime_speed_submit(laps: u64) -> u64
-    ensures { λ r. ⌜ r ≡ scoreOf (phaseAfter (leasedPhase 32) submitLap laps) ⌝ }
+    ensures { λ r. ⌜ r ≡ scoreOf (phaseOfLap (leasedPhase 32) submitLap laps) ⌝ }
 {
     let mut rt = leased(32);
     let mut i: u64 = 0;
@@ -299,7 +299,7 @@ pub extern "C" fn runtime_speed_submit(laps: u64) -> u64
 // The limit is above the rejections of a timed life.
 #[no_mangle]
 pub extern "C" fn runtime_speed_reject(laps: u64) -> u64
-    ensures { λ r. ⌜ r ≡ scoreOf (phaseAfter (leasedPhase 65535) rejectLap laps) ⌝ }
+    ensures { λ r. ⌜ r ≡ scoreOf (phaseOfLap (leasedPhase 65535) rejectLap laps) ⌝ }
 {
     let mut rt = leased(65535);
     let mut i: u64 = 0;

@@ -23,7 +23,7 @@ use Rattle.format.specs.Encode.{encode}
 use Rattle.session.specs.declared.Session.{Session}
 use Rattle.session.specs.declared.Turn.{Turn}
 use Rattle.session.specs.Records.{Standing, step, told, answerWords}
-use Rattle.steps.specs.Runtimes.{phaseAt}
+use Rattle.steps.specs.Runtimes.{phaseAtStage}
 use Rattle.steps.proofs.Starts.{begun-at}
 use Rattle.session.specs.Sessions.{phaseIn, Answers}
 
@@ -52,7 +52,7 @@ pub moves : (t : Turn) (outcome : Outcome) (l : List Capability) (x : List Recei
     → receiptsOf (t .session .ring) ≡ keptAfter (outcome .kind) (outcome .core) kept
     → t .words ≡ encode (outputAt (outcome .kind) (outcome .core)) → Listing (t .session .listed) l → Gives outcome x
     → Answers t (told l (x kept))
-unfolding told answerWords reactionOf phaseAt
+unfolding told answerWords reactionOf phaseAtStage
 moves t outcome l x kept e h st k r w n g =
     record {
       words = w ∙ ap (λ (y : Reaction). encode (y .output)) (g .reaction kept);
@@ -60,8 +60,8 @@ moves t outcome l x kept e h st k r w n g =
       sound = record { starting = h; core = λ d. rw e (g .sound); ring = k };
     }
 
-at-stage : (g : Stage) (s : Starting) (core : Core) (kept : List Receipt) → g ≢ Stage.Started → startPhaseOf s ≡ phaseAt g s core kept
-unfolding phaseAt
+at-stage : (g : Stage) (s : Starting) (core : Core) (kept : List Receipt) → g ≢ Stage.Started → startPhaseOf s ≡ phaseAtStage g s core kept
+unfolding phaseAtStage
 at-stage Stage.Trying s core kept n = refl
 at-stage Stage.Gone s core kept n = refl
 at-stage Stage.Started s core kept n = absurd (n refl)
@@ -72,7 +72,7 @@ module _ (s : Session) {p : Phase} (e : phaseIn s ≡ p) where
   is-start d n = at-stage (s .starting .stage) (s .starting) (s .core) (receiptsOf (s .ring)) (λ f. n (sym d ∙ f)) ∙ e
 
   pub is-running : s .starting .stage ≡ Stage.Started → phaseOf (s .core) (receiptsOf (s .ring)) ≡ p
-  unfolding phaseAt
+  unfolding phaseAtStage
   is-running d = rw d at e
 
 unfoldable stageNumber : Stage → ℕ

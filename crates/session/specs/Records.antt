@@ -21,16 +21,16 @@ pub data Answer : Type 0 where
   Tells : Output → Answer
   Unread : Answer  -- a malformed record
 
-pub record Step : Type 0 where
+pub record RecordStep : Type 0 where
   pub answer : Answer
   pub standing : Standing
 
 -- where a reaction leaves the life, with what is listed
-unfoldable pub told : List Capability → Reaction → Step
+unfoldable pub told : List Capability → Reaction → RecordStep
 told listed r = record { answer = Tells (r .output); standing = record { listed = listed; phase = r .phase } }
 
 -- A start takes what is listed, and leaves nothing of it; nor does it leave anything of the life before.
-unfoldable pub step : Standing → Record → Step
+unfoldable pub step : Standing → Record → RecordStep
 step s (Lists c) = record { answer = Listed; standing = record { listed = s .listed ++ (c ∷ []); phase = s .phase } }
 step s (Starts config bootId now flags) =
     told [] (start (record { config = config; capabilities = s .listed; bootId = bootId; now = now; flags = flags }))

@@ -5,14 +5,14 @@ use Rattle.receipts.specs.Rings.{Kept, receiptsOf}
 use Rattle.machine.specs.Machine.{Sound}
 use Rattle.start.specs.declared.Stage.the-variants as Stage
 use Rattle.start.specs.Starts.{Listing, StartSound}
-use Rattle.steps.specs.Runtimes.{phaseAt}
+use Rattle.steps.specs.Runtimes.{phaseAtStage}
 use Rattle.session.specs.declared.Session.{Session}
 use Rattle.session.specs.declared.Turn.{Turn}
-use Rattle.session.specs.Records.{Standing, Step, answerWords}
+use Rattle.session.specs.Records.{Standing, RecordStep, answerWords}
 
 -- where it stands: the start, or the runtime that it has left
 abbrev pub phaseIn : Session → Phase
-phaseIn s = phaseAt (s .starting .stage) (s .starting) (s .core) (receiptsOf (s .ring))
+phaseIn s = phaseAtStage (s .starting .stage) (s .starting) (s .core) (receiptsOf (s .ring))
 
 pub record Stands (s : Session) (x : Standing) : Type 0 where
   pub listing : Listing (s .listed) (x .listed)
@@ -25,7 +25,7 @@ pub record SessionSound (s : Session) : Type 0 where
   pub ring : Kept (s .ring)
 
 -- what is promised of the answer to a record, given what the definitions say
-pub record Answers (t : Turn) (x : Step) : Type 0 where
+pub record Answers (t : Turn) (x : RecordStep) : Type 0 where
   pub words : t .words ≡ answerWords (x .answer)
   pub stands : Stands (t .session) (x .standing)
   pub sound : SessionSound (t .session)

@@ -14,8 +14,10 @@ use lib.Seq.{take-suc, drop-cons, getD-take}
 use Rattle.model.specs.declared.Capability.{Capability}
 use Rattle.model.specs.Reasons.{invalidBootId, invalidConfig, invalidCapability, duplicateCapability}
 use Rattle.model.specs.Soundness.{sound, idTaken, axisUsed}
+use Rattle.rules.specs.Lists.{Mem}
 use Rattle.rules.specs.Protocol.{badConfig, refusedRecord, refusedStart}
 use Rattle.rules.proofs.Basics.{neither}
+use Rattle.rules.proofs.Records.{means-sound}
 use Rattle.rules.proofs.Soundness.{sound-start}
 use Rattle.machine.specs.Machine.{Checked}
 use Rattle.start.specs.declared.Start.{Start}
@@ -94,7 +96,8 @@ module _ (s : Start) (n : length (s .capabilities) ≡ 16) where
   checked marks e used =
       let h = sound-start (startOf s) e in
       let same = listed-passed e in
-      record { few = few-passed e; some = rw same at (h .some); each = rw same at (h .each); used = used }
+      let each : (c : Capability) → Mem c (startOf s .capabilities) → sound c ≡ true = λ c m. means-sound c (h .records .each c m) in
+      record { few = few-passed e; some = rw same at (h .some); each = rw same at each; used = used }
 
 -- ---- what the checks find
 

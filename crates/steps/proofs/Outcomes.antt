@@ -12,7 +12,7 @@ use Rattle.machine.specs.declared.Kind.the-variants as Kind
 use Rattle.machine.specs.Machine.{keptAt, keptAfter}
 use Rattle.machine.specs.Machine as Machine
 use Rattle.start.specs.declared.Starting.{Starting}
-use Rattle.steps.specs.Runtimes.{answerOf, outputAt, storesAt, stores}
+use Rattle.steps.specs.Runtimes.{answerOf, outputOfAnswer, storesAt, stores}
 
 -- whether a receipt is kept
 kept-when : (w : Awaited) (r : Receipt) (kept : List Receipt) → storesAt w ≡ true → keptAt w r kept ≡ keep 64 kept r
@@ -58,8 +58,8 @@ after-unless Kind.Item core kept e = kept-unless (core .waiting .awaited) (core 
 after-unless (Kind.Reminder number) core kept e = refl
 after-unless Kind.NoReplyAwaited core kept e = refl
 
-pub output-of : (k : Kind) (s : Starting) (core : Core) → outputAt (answerOf k) s core ≡ Machine.outputAt k core
-unfolding outputAt answerOf Machine.outputAt
+pub output-of : (k : Kind) (s : Starting) (core : Core) → outputOfAnswer (answerOf k) s core ≡ Machine.outputAt k core
+unfolding outputOfAnswer answerOf Machine.outputAt
 output-of Kind.Returned s core = refl
 output-of (Kind.Polled seen) s core = refl
 output-of Kind.Succeeded s core = refl

@@ -18,7 +18,7 @@ use Rattle.steps.specs.declared.Answer.{Answer}
 use Rattle.steps.specs.declared.Places.{Places}
 use Rattle.steps.specs.declared.Placement.{Placement}
 use Rattle.steps.specs.declared.Step.{Step}
-use Rattle.steps.specs.Runtimes.{storesOf, Kept, Placed, receiptsOf, Placing, answerOf, stores, Settles}
+use Rattle.steps.specs.Runtimes.{storesOf, Kept, Placed, receiptsAt, Placing, answerOf, stores, Settles}
 use Rattle.steps.proofs.Outcomes.{after-when, after-unless}
 
 -- one more receipt
@@ -61,7 +61,7 @@ module _ (p : Places) (w : Placed p) (r : Receipt) (kind : Bool) (e : kind ≡ i
 pub aside-kept : (p : Places) (slots : List Receipt) (r : Receipt) → Kept p slots → Kept p (set slots 64 r)
 aside-kept p slots r k = record { room = length-set slots 64 r ∙ k .room; sound = rw (take-set-le 64 slots 64 r (omega arith)) (k .sound) }
 
-pub aside-same : (p : Places) (slots : List Receipt) (r : Receipt) → receiptsOf p (set slots 64 r) ≡ receiptsOf p slots
+pub aside-same : (p : Places) (slots : List Receipt) (r : Receipt) → receiptsAt p (set slots 64 r) ≡ receiptsAt p slots
 aside-same p slots r = rw (take-set-le 64 slots 64 r (omega arith))
 
 -- what an outcome leaves to be stored
@@ -73,7 +73,7 @@ module _ (p : Places) (o : Outcome) (a : Answer) (f : a ≡ answerOf (o .kind)) 
     core = refl;
     inside = omega (arith, g .inside);
     kept = g .kept;
-    keeps = λ slots k. g .keeps slots k ∙ sym (after-when (o .kind) (o .core) (receiptsOf p slots) t);
+    keeps = λ slots k. g .keeps slots k ∙ sym (after-when (o .kind) (o .core) (receiptsAt p slots) t);
   }
 
   pub settles-aside : stores (o .kind) (o .core .waiting .awaited) ≡ false
@@ -83,5 +83,5 @@ module _ (p : Places) (o : Outcome) (a : Answer) (f : a ≡ answerOf (o .kind)) 
     core = refl;
     inside = omega arith;
     kept = λ slots k. aside-kept p slots (o .core .receipt) k;
-    keeps = λ slots k. aside-same p slots (o .core .receipt) ∙ sym (after-unless (o .kind) (o .core) (receiptsOf p slots) t);
+    keeps = λ slots k. aside-same p slots (o .core .receipt) ∙ sym (after-unless (o .kind) (o .core) (receiptsAt p slots) t);
   }

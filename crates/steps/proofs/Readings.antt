@@ -25,13 +25,13 @@ use Rattle.readings.specs.Readings.{LeaseRead, CapabilityRead}
 use Rattle.readings.proofs.Books.{shown-at}
 use Rattle.steps.specs.declared.Places.{Places}
 use Rattle.steps.specs.declared.Runtime.{Runtime}
-use Rattle.steps.specs.Runtimes.{storesOf, Kept, Placed, receiptsOf, phaseAt, phaseIn, RuntimeSound, Shown, LeaseShown, CapabilityShown, ReceiptShown, Counts, SnapshotRead, heldAt, Finds}
+use Rattle.steps.specs.Runtimes.{storesOf, Kept, Placed, receiptsAt, phaseAtStage, phaseIn, RuntimeSound, Shown, LeaseShown, CapabilityShown, ReceiptShown, Counts, SnapshotRead, heldAt, Finds}
 
 -- of a runtime that has started the rules show the same, and leave it where it stands
 pub shown-by-rules : (rt : Runtime) (q : Reading) (v : Value) → rt .starting .stage ≡ Stage.Started → Shown rt q v
     → react (phaseIn rt) (Reads q) ≡ record { output = Shows v; phase = phaseIn rt }
-unfolding phaseAt
-shown-by-rules rt q v d s = rw (d, s) (shown-at (rt .core) (receiptsOf (rt .places) (rt .slots)) q)
+unfolding phaseAtStage
+shown-by-rules rt q v d s = rw (d, s) (shown-at (rt .core) (receiptsAt (rt .places) (rt .slots)) q)
 
 -- the receipts of the places ----------------------------------------------------------------------------------------------
 
@@ -39,7 +39,7 @@ pub counts : (p : Places) → Counts p (p .index .rejected .count + p .index .ot
 counts p = λ slots k. sym (list-length (p .index) (storesOf p slots) (k .sound))
 
 module _ (p : Places) (w : Placed p) (at : ℕ) (f : Found) (m : Points (p .index) at f) where
-  finds : (s : ℕ) → s < 64 → ((slots : List Receipt) → Kept p slots → getElem? (receiptsOf p slots) at ≡ some (getD (take 64 slots) s blank)) → Finds p at s
+  finds : (s : ℕ) → s < 64 → ((slots : List Receipt) → Kept p slots → getElem? (receiptsAt p slots) at ≡ some (getD (take 64 slots) s blank)) → Finds p at s
   finds s less reads = record {
     inside = omega arith;
     reads = λ slots k. reads slots k ∙ rw (lt-ltb s 64 less, getD-take 64 slots s blank less);
@@ -60,10 +60,10 @@ module _ (p : Places) (w : Placed p) (at : ℕ) (f : Found) (m : Points (p .inde
 
 module _ (rt : Runtime) where
   pub lease-shown : {axis : ℕ} {slot : LeaseSlot} → LeaseRead (rt .core) axis slot → LeaseShown rt axis slot
-  lease-shown e = record { same = e .same; value = e .value (receiptsOf (rt .places) (rt .slots)) }
+  lease-shown e = record { same = e .same; value = e .value (receiptsAt (rt .places) (rt .slots)) }
 
   pub capability-shown : {index : ℕ} {slot : CapabilitySlot} → CapabilityRead (rt .core) index slot → CapabilityShown rt index slot
-  capability-shown e = record { same = e .same; value = e .value (receiptsOf (rt .places) (rt .slots)) }
+  capability-shown e = record { same = e .same; value = e .value (receiptsAt (rt .places) (rt .slots)) }
 
   module _ (h : RuntimeSound rt) where
     pub count-shown : {n : ℕ} → Counts (rt .places) n → Shown rt ReadReceiptCount (OfNumber n)
@@ -76,5 +76,5 @@ module _ (rt : Runtime) where
     pub receipt-shown : {index slot : ℕ} {kept : KeptReceipt} → Finds (rt .places) index slot → kept ≡ keptAt (heldAt slot (getD (rt .slots) slot blank)) → ReceiptShown rt index kept
     unfolding read bookOf
     receipt-shown {index} {slot} {kept} f e =
-        let s : kept ≡ keptAt (getElem? (receiptsOf (rt .places) (rt .slots)) index) = e ∙ ap keptAt (sym (f .reads (rt .slots) (h .kept))) in
+        let s : kept ≡ keptAt (getElem? (receiptsAt (rt .places) (rt .slots)) index) = e ∙ ap keptAt (sym (f .reads (rt .slots) (h .kept))) in
         record { same = s; value = ap OfReceipt (ap receiptIn s ∙ kept-in _) }

@@ -22,7 +22,7 @@ use Rattle.steps.specs.declared.Places.{Places}
 use Rattle.steps.specs.declared.Runtime.{Runtime}
 use Rattle.steps.specs.declared.StartStep.{StartStep}
 use Rattle.steps.specs.declared.Step.{Step}
-use Rattle.steps.specs.Runtimes.{storesOf, Kept, receiptsOf, phaseAt, phaseIn, RuntimeSound, outputAt, startAnswerOf, isStarted, Settles, Moves, afterStart, withStart, Empties, Begins, StartTurns}
+use Rattle.steps.specs.Runtimes.{storesOf, Kept, receiptsAt, phaseAtStage, phaseIn, RuntimeSound, outputOfAnswer, startAnswerOf, isStarted, Settles, Moves, afterStart, withStart, Empties, Begins, StartTurns}
 use Rattle.steps.proofs.Standings.{is-started, moves-started, at-start}
 
 -- a ring with no receipt
@@ -35,8 +35,8 @@ empties p o l m = record {
   nothing = λ slots. o .nothing (storesOf p slots);
 }
 
-pub start-output-of : (k : StartKind) (s : Starting) (core : Core) → outputAt (startAnswerOf k) s core ≡ startOutputAt k s
-unfolding outputAt startAnswerOf startOutputAt
+pub start-output-of : (k : StartKind) (s : Starting) (core : Core) → outputOfAnswer (startAnswerOf k) s core ≡ startOutputAt k s
+unfolding outputOfAnswer startAnswerOf startOutputAt
 start-output-of StartKind.Item s core = refl
 start-output-of (StartKind.Reminder number) s core = refl
 start-output-of (StartKind.Refused number) s core = refl
@@ -46,8 +46,8 @@ start-output-of StartKind.Started s core = refl
 
 -- after a start, or a reply to its fallback: where it stands is the start's phase
 pub begun-at : (g : Stage) (s : Starting) (core : Core) (kept : List Receipt) → s .stage ≡ g → StartSound s
-    → ((StartSound s × (s .stage ≡ Stage.Started)) → Opened s core) → kept ≡ [] → phaseAt g s core kept ≡ startPhaseOf s
-unfolding phaseAt
+    → ((StartSound s × (s .stage ≡ Stage.Started)) → Opened s core) → kept ≡ [] → phaseAtStage g s core kept ≡ startPhaseOf s
+unfolding phaseAtStage
 begun-at Stage.Trying s core kept e h o n = refl
 begun-at Stage.Gone s core kept e h o n = refl
 begun-at Stage.Started s core kept e h o n = ap (phaseOf core) n ∙ o (h, e) .phase
@@ -67,7 +67,7 @@ module _ (slots : List Receipt) (o : StartOutcome) (s : StartStep) (n : Begins o
   unfolding startReactionOf
   moves-created = record {
     output = rw (n .answer, n .starting) (start-output-of (o .kind) (o .starting) (s .core)) ∙ ap (λ (y : Reaction). y .output) (g .reaction);
-    phase = begun-at (s .starting .stage) (s .starting) (s .core) (receiptsOf (s .places) slots) refl sound opens (n .empty .nothing slots)
+    phase = begun-at (s .starting .stage) (s .starting) (s .core) (receiptsAt (s .places) slots) refl sound opens (n .empty .nothing slots)
         ∙ ap startPhaseOf (n .starting) ∙ ap (λ (y : Reaction). y .phase) (g .reaction);
     sound = record {
       starting = sound;
@@ -82,7 +82,7 @@ module _ {starting : Starting} {core : Core} {places : Places} {i : Input} where
   turns-begun {o} {s} d n g = record {
     inside = rw (n .aside) (omega arith);
     moves = λ rt a b e h. moves-created (set (rt .slots) (s .slot) (s .receipt)) o s n
-        (subst (StartGives o) (ap (λ (p : Phase). react p i) (sym (at-start (rt .starting .stage) (rt .starting) (rt .core) (receiptsOf (rt .places) (rt .slots)) (ap (λ (z : Starting). isStarted (z .stage)) a ∙ d) ∙ ap startPhaseOf a))) g)
+        (subst (StartGives o) (ap (λ (p : Phase). react p i) (sym (at-start (rt .starting .stage) (rt .starting) (rt .core) (receiptsAt (rt .places) (rt .slots)) (ap (λ (z : Starting). isStarted (z .stage)) a ∙ d) ∙ ap startPhaseOf a))) g)
         (length-set (rt .slots) (s .slot) (s .receipt) ∙ h .kept .room);
   }
 

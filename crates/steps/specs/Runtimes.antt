@@ -70,26 +70,26 @@ pub record Placed (p : Places) : Type 0 where
   pub kept : Kept p slots
 
 -- the receipts kept, oldest first
-abbrev pub receiptsOf : Places → List Receipt → List Receipt
-receiptsOf p slots = listOf (p .index) (storesOf p slots)
+abbrev pub receiptsAt : Places → List Receipt → List Receipt
+receiptsAt p slots = listOf (p .index) (storesOf p slots)
 
 -- one more receipt: in its slot, the rule of 01
 pub record Placing (before : Places) (r : Receipt) (after : Placement) : Type 0 where
   pub inside : after .slot < 64
   pub kept : (slots : List Receipt) → Kept before slots → Kept (after .places) (set slots (after .slot) r)
   pub keeps : (slots : List Receipt) → Kept before slots
-      → receiptsOf (after .places) (set slots (after .slot) r) ≡ keep 64 (receiptsOf before slots) r
+      → receiptsAt (after .places) (set slots (after .slot) r) ≡ keep 64 (receiptsAt before slots) r
 
 -- where a runtime stands ---------------------------------------------------------------------------------------------------
 
 -- the phase: of the start, or of the runtime that it has left
-unfoldable pub phaseAt : Stage → Starting → Core → List Receipt → Phase
-phaseAt Stage.Trying s core kept = startPhaseOf s
-phaseAt Stage.Gone s core kept = startPhaseOf s
-phaseAt Stage.Started s core kept = phaseOf core kept
+unfoldable pub phaseAtStage : Stage → Starting → Core → List Receipt → Phase
+phaseAtStage Stage.Trying s core kept = startPhaseOf s
+phaseAtStage Stage.Gone s core kept = startPhaseOf s
+phaseAtStage Stage.Started s core kept = phaseOf core kept
 
 abbrev pub phaseIn : Runtime → Phase
-phaseIn rt = phaseAt (rt .starting .stage) (rt .starting) (rt .core) (receiptsOf (rt .places) (rt .slots))
+phaseIn rt = phaseAtStage (rt .starting .stage) (rt .starting) (rt .core) (receiptsAt (rt .places) (rt .slots))
 
 -- the one condition on a runtime: what `new` sets up, and every call and reply keeps
 pub record RuntimeSound (rt : Runtime) : Type 0 where
@@ -111,21 +111,21 @@ answerOf (Kind.Reminder number) = Answer.Reminder number
 answerOf Kind.NoReplyAwaited = Answer.NoReplyAwaited
 
 -- 01's output, by the answer and what is stored with it
-unfoldable pub outputAt : Answer → Starting → Core → Output
-outputAt Answer.Returned s core = Answers Returned
-outputAt (Answer.Polled seen) s core = Answers (Polled seen)
-outputAt Answer.Succeeded s core = Answers Succeeded
-outputAt Answer.Leased s core = Answers (Leased (core .lease))
-outputAt (Answer.Refused reason) s core = Answers (Refused reason)
-outputAt Answer.Submitted s core = Answers (Submitted (core .submitted))
-outputAt Answer.Item s core = Hands (itemOf core)
-outputAt (Answer.Reminder number) s core = Reminds number (itemOf core)
-outputAt Answer.NoReplyAwaited s core = Refuses noReplyAwaited
-outputAt Answer.StartItem s core = Hands (startItem s)
-outputAt (Answer.StartReminder number) s core = Reminds number (startItem s)
-outputAt (Answer.StartRefused number) s core = StartRefused number
-outputAt Answer.NoRuntime s core = Protocol.NoRuntime
-outputAt Answer.Started s core = Protocol.Started
+unfoldable pub outputOfAnswer : Answer → Starting → Core → Output
+outputOfAnswer Answer.Returned s core = Answers Returned
+outputOfAnswer (Answer.Polled seen) s core = Answers (Polled seen)
+outputOfAnswer Answer.Succeeded s core = Answers Succeeded
+outputOfAnswer Answer.Leased s core = Answers (Leased (core .lease))
+outputOfAnswer (Answer.Refused reason) s core = Answers (Refused reason)
+outputOfAnswer Answer.Submitted s core = Answers (Submitted (core .submitted))
+outputOfAnswer Answer.Item s core = Hands (itemOf core)
+outputOfAnswer (Answer.Reminder number) s core = Reminds number (itemOf core)
+outputOfAnswer Answer.NoReplyAwaited s core = Refuses noReplyAwaited
+outputOfAnswer Answer.StartItem s core = Hands (startItem s)
+outputOfAnswer (Answer.StartReminder number) s core = Reminds number (startItem s)
+outputOfAnswer (Answer.StartRefused number) s core = StartRefused number
+outputOfAnswer Answer.NoRuntime s core = Protocol.NoRuntime
+outputOfAnswer Answer.Started s core = Protocol.Started
 
 unfoldable pub startAnswerOf : StartKind → Answer
 startAnswerOf StartKind.Item = Answer.StartItem
@@ -173,7 +173,7 @@ pub record Settles (places : Places) (o : Outcome) (s : Step) : Type 0 where
   pub inside : s .slot < 65
   pub kept : (slots : List Receipt) → Kept places slots → Kept (s .places) (set slots (s .slot) (s .receipt))
   pub keeps : (slots : List Receipt) → Kept places slots
-      → receiptsOf (s .places) (set slots (s .slot) (s .receipt)) ≡ keptAfter (o .kind) (o .core) (receiptsOf places slots)
+      → receiptsAt (s .places) (set slots (s .slot) (s .receipt)) ≡ keptAfter (o .kind) (o .core) (receiptsAt places slots)
 
 -- what is demanded of the parts of a runtime
 pub record Ready (stage : Stage) (core : Core) (places : Places) : Type 0 where
@@ -186,7 +186,7 @@ stay core places answer = record { answer = answer; core = core; places = places
 
 -- where a runtime is left, given what the rules say
 pub record Moves (rt : Runtime) (answer : Answer) (x : Reaction) : Type 0 where
-  pub output : outputAt answer (rt .starting) (rt .core) ≡ x .output
+  pub output : outputOfAnswer answer (rt .starting) (rt .core) ≡ x .output
   pub phase : phaseIn rt ≡ x .phase
   pub sound : RuntimeSound rt
 
@@ -261,7 +261,7 @@ withStart g s = record { answer = s .answer; starting = g; core = s .core; place
 -- no receipt is kept, whatever stands in the slots
 pub record Empties (p : Places) : Type 0 where
   pub kept : (slots : List Receipt) → length slots ≡ 65 → Kept p slots
-  pub nothing : (slots : List Receipt) → receiptsOf p slots ≡ []
+  pub nothing : (slots : List Receipt) → receiptsAt p slots ≡ []
 
 -- the arguments of a start as the rules have them, and with the list as a start holds it
 abbrev pub startOn : Config → List Capability → ℕ → ℕ → ℕ → Protocol.Start
@@ -288,7 +288,7 @@ pub record StartTurns (starting : Starting) (core : Core) (places : Places) (i :
 
 -- the book that a runtime is read by
 abbrev pub bookAt : Runtime → Book
-bookAt rt = bookOf (rt .core) (receiptsOf (rt .places) (rt .slots))
+bookAt rt = bookOf (rt .core) (receiptsAt (rt .places) (rt .slots))
 
 -- a reading of the runtime gives this value: where it has started, what the rules show of its phase (`shown-by-rules`)
 abbrev pub Shown : Runtime → Reading → Value → Type 0
@@ -304,15 +304,15 @@ pub record CapabilityShown (rt : Runtime) (index : ℕ) (slot : CapabilitySlot) 
   pub value : Shown rt (ReadCapability index) (OfCapability (capabilityIn slot))
 
 pub record ReceiptShown (rt : Runtime) (index : ℕ) (kept : KeptReceipt) : Type 0 where
-  pub same : kept ≡ keptAt (getElem? (receiptsOf (rt .places) (rt .slots)) index)
+  pub same : kept ≡ keptAt (getElem? (receiptsAt (rt .places) (rt .slots)) index)
   pub value : Shown rt (ReadReceipt index) (OfReceipt (receiptIn kept))
 
 -- what `receipt_count` and `snapshot` promise, whatever stands in the slots
 abbrev pub Counts : Places → ℕ → Type 0
-Counts p n = (slots : List Receipt) → Kept p slots → n ≡ length (receiptsOf p slots)
+Counts p n = (slots : List Receipt) → Kept p slots → n ≡ length (receiptsAt p slots)
 
 abbrev pub SnapshotRead : Core → Places → Snapshot → Type 0
-SnapshotRead core p s = (slots : List Receipt) → Kept p slots → OfSnapshot s ≡ read ReadSnapshot (bookOf core (receiptsOf p slots))
+SnapshotRead core p s = (slots : List Receipt) → Kept p slots → OfSnapshot s ≡ read ReadSnapshot (bookOf core (receiptsAt p slots))
 
 -- what stands in a slot is a receipt kept, but in the last
 abbrev pub heldAt : ℕ → Receipt → Option Receipt
@@ -321,4 +321,4 @@ heldAt slot r = cond (ltb slot 64) (some r) none
 -- the slot of the receipt at a place from the oldest, the last where there is none
 pub record Finds (p : Places) (index slot : ℕ) : Type 0 where
   pub inside : slot < 65
-  pub reads : (slots : List Receipt) → Kept p slots → getElem? (receiptsOf p slots) index ≡ heldAt slot (getD slots slot blank)
+  pub reads : (slots : List Receipt) → Kept p slots → getElem? (receiptsAt p slots) index ≡ heldAt slot (getD slots slot blank)

@@ -17,7 +17,7 @@ use Rattle.model.specs.Soundness.{sound}
 use Rattle.model.specs.declared.Capability.{Capability}
 use Rattle.model.specs.declared.Presence.the-variants.{Absent, Present}
 use Rattle.model.proofs.Meaning.{sound-id, sound-axis}
-use Rattle.rules.specs.Admissible.{Mem}
+use Rattle.rules.specs.Lists.{Mem}
 use Rattle.rules.specs.Admission.{withId}
 use Rattle.validation.specs.declared.Found.{Found}
 use Rattle.validation.specs.Answers.{capabilityIf, capabilityIn, foundOf}

@@ -3,8 +3,8 @@ use mathlib.Core.List.{List, [], _∷_, _++_, map}
 use mathlib.Core.Path.{_≡_, refl, ap}
 use Rattle.rules.specs.Protocol.{Output, start, react}
 use Rattle.rules.specs.Lives.{outputs, outputsFrom}
-use Rattle.rules.specs.Claim.{Distinct}
-use Rattle.rules.proofs.Theorem.{demand-3}
+use Rattle.rules.specs.Lists.{Distinct}
+use Rattle.rules.proofs.Theorem.{demands}
 use Rattle.format.specs.Decode.{Record, Lists, Starts, Feeds, Malformed}
 use Rattle.session.specs.Records.{Standing, opening, told, step}
 use Rattle.wire.specs.Wire.{answersFrom}
@@ -26,4 +26,4 @@ answered s (Malformed ∷ rs) = answered s rs
 -- 00, demand 3: of all lives that bytes can be
 pub demand-3-of-the-wire : (rs : List Record) → Distinct (map (λ l. l .start .bootId) (livesIn rs)) → WireClaim rs
 unfolding opening
-demand-3-of-the-wire rs differ = record { same = answered opening rs; claim = demand-3 (livesIn rs) differ }
+demand-3-of-the-wire rs differ = record { same = answered opening rs; demands = demands (livesIn rs) differ }

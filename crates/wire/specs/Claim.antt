@@ -4,7 +4,7 @@ use mathlib.Core.Path.{_≡_}
 use Rattle.model.specs.declared.Capability.{Capability}
 use Rattle.rules.specs.Protocol.{Input, Output, Gone}
 use Rattle.rules.specs.Lives.{Life, outputs, outputsFrom}
-use Rattle.rules.specs.Claim as Rules
+use Rattle.rules.specs.Demands.{Demands}
 use Rattle.format.specs.Decode.{Record, Lists, Starts, Feeds, Malformed}
 use Rattle.session.specs.Records.{opening, Answer, Listed, Tells, Unread}
 use Rattle.wire.specs.Wire.{answersFrom}
@@ -47,5 +47,5 @@ joined (l ∷ ls) = l ++ joined ls
 pub record WireClaim (rs : List Record) : Type 0 where
   -- what is answered are the outputs of the lives, after those of the inputs before the first start, where there is no runtime
   pub same : outputsIn (answersFrom opening rs) ≡ outputsFrom Gone (inputsOf rs) ++ joined (map outputs (livesIn rs))
-  -- and every part of demand 3 holds of these lives
-  pub claim : Rules.Claim (livesIn rs)
+  -- and all that is claimed holds of these lives
+  pub demands : Demands (livesIn rs)

@@ -27,7 +27,7 @@ use Rattle.model.specs.declared.ExecutionClass.the-variants as Class
 use Rattle.model.specs.declared.Reason.the-variants as Reason
 use Rattle.model.specs.declared.RuntimeState.the-variants as State
 use Rattle.model.specs.declared.Verification.the-variants as Verification
-use Rattle.rules.specs.Book.{withEpoch, withNextReceipt, withNextLease}
+use Rattle.rules.specs.With.{withEpoch, withNextReceipt, withNextLease}
 use Rattle.rules.specs.Interaction.{Returned, Polled, Succeeded, Leased, Refused, Submitted}
 use Rattle.rules.specs.Protocol.{Tick, UpdateState, EmergencyStop, PollEstop, RecoverLocal, Acquire, Renew, Cancel, Submit}
 use Rattle.rules.specs.Protocol.{Observed, Executed, FellBack, Recorded}
@@ -50,7 +50,7 @@ use Rattle.model.specs.declared.ExecutionClass.the-variants as Class
 use Rattle.model.specs.declared.Verification.the-variants as Verification
 use Rattle.rules.specs.Book.{Book}
 use Rattle.rules.specs.Protocol.{Input, Output, Phase, Starting, Gone, Idle, Waiting, bookIn, start, react}
-use Rattle.rules.specs.Lives.{Life, outputs, outputsFrom, phaseOf, phaseFrom}
+use Rattle.rules.specs.Lives.{Life, outputs, outputsFrom, endOf, phaseFrom}
 ";
 
 const SHARED: &str = "
@@ -73,7 +73,7 @@ outputsAfter p (s ∷ rest) =
 
 -- the outputs of a life in which counters are set
 unfoldable pub outputsSet : Life → List Segment → List Output
-outputsSet l rest = outputs l ++ outputsAfter (phaseOf l) rest
+outputsSet l rest = outputs l ++ outputsAfter (endOf l) rest
 
 -- where the runtime stands after the start and after each input
 unfoldable pub phasesFrom : Phase → List Input → List Phase
@@ -87,7 +87,7 @@ phasesAfter p (s ∷ rest) =
 
 unfoldable pub phases : Life → List Segment → List Phase
 phases l rest =
-    start (l .start) .phase ∷ (phasesFrom (start (l .start) .phase) (l .inputs) ++ phasesAfter (phaseOf l) rest)
+    start (l .start) .phase ∷ (phasesFrom (start (l .start) .phase) (l .inputs) ++ phasesAfter (endOf l) rest)
 
 -- the book at a place of these
 unfoldable pub bookAt : List Phase → ℕ → Option Book

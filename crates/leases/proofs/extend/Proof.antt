@@ -1,5 +1,5 @@
 use mathlib.Core.Path.{refl, ap}
-use Rattle.rules.specs.Book.{withLeases}
+use Rattle.rules.specs.With.{withLeases}
 use Rattle.rules.specs.Protocol.{proceed}
 use Rattle.rules.specs.Rules.{leased, extend}
 use Rattle.machine.specs.Machine.{leaseIf, leaseIn, bookOf, afterRecordOf}

@@ -1,6 +1,6 @@
 use mathlib.Core.Path.{ap}
 use Rattle.leases.proofs.Grants.{grants}
-use Rattle.rules.specs.Book.{withLeases, withNextLease, withEpoch, withState}
+use Rattle.rules.specs.With.{withLeases, withNextLease, withEpoch, withState}
 use Rattle.rules.specs.Protocol.{proceed}
 use Rattle.rules.specs.Rules.{leased}
 use Rattle.machine.specs.Machine.{leaseIf, leaseIn, bookOf, afterRecordOf}

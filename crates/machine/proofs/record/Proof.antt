@@ -1,5 +1,5 @@
 use Rattle.rules.specs.Protocol.{proceed}
-use Rattle.rules.specs.Book.{withReceipts, withNextReceipt}
+use Rattle.rules.specs.With.{withReceipts, withNextReceipt}
 use Rattle.rules.specs.Receipts.{kept, numbered}
 use Rattle.rules.specs.Rules.{recordReceipt}
 use Rattle.machine.specs.Machine.{bookOf, reactionOf, phaseOf, phaseAt, outputAt, keptAfter, keptAt, itemAt}

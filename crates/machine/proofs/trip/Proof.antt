@@ -1,6 +1,6 @@
 use Prim.Native.Nat.{_<_}
 use mathlib.Core.Path.{sym, ap}
-use Rattle.rules.specs.Book.{withState}
+use Rattle.rules.specs.With.{withState}
 use Rattle.rules.specs.Protocol.{proceed}
 use Rattle.machine.specs.Machine.{bookOf, afterFallbackOf, afterTrip}
 use Rattle.machine.proofs.Axes.{used-first, used-some}

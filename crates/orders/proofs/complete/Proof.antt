@@ -2,7 +2,7 @@ use mathlib.Core.List.{map}
 use mathlib.Core.Option.{some}
 use mathlib.Core.Path.{refl, ap, _∙_}
 use lib.ListN.{set}
-use Rattle.rules.specs.Book.{withActive, withInvalidCount}
+use Rattle.rules.specs.With.{withActive, withInvalidCount}
 use Rattle.rules.specs.Protocol.{proceed}
 use Rattle.rules.specs.Receipts.{axisOr255}
 use Rattle.machine.specs.Machine.{activeIn, bookOf, afterRecordOf}

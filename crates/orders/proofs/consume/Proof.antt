@@ -3,7 +3,7 @@ use mathlib.Core.Option.{some}
 use mathlib.Core.Path.{refl, ap, _∙_}
 use lib.ListN.{set}
 use Rattle.model.specs.Records.{noLease}
-use Rattle.rules.specs.Book.{withReplay, withLeases}
+use Rattle.rules.specs.With.{withReplay, withLeases}
 use Rattle.machine.specs.Machine.{leaseIf, leaseIn, bookOf, reactionOf, phaseOf, phaseAt, outputAt, keptAfter, keptAt, itemAt}
 use Rattle.machine.proofs.Slots.{map-set}
 use Rattle.orders.proofs.Orders.{admitting, consumes}

@@ -2,7 +2,7 @@ use Rattle.model.specs.declared.Decision.the-variants.{Rejected}
 use Rattle.validation.specs.Answers.{capabilityIn}
 use mathlib.Core.Path.{sym, ap, _∙_}
 use Rattle.rules.specs.Admission.{orderCapability}
-use Rattle.rules.specs.Book.{withInvalidCount}
+use Rattle.rules.specs.With.{withInvalidCount}
 use Rattle.rules.specs.Protocol.{proceed}
 use Rattle.rules.specs.Receipts.{axisOr255, orderReceipt, notSent}
 use Rattle.machine.specs.Machine.{bookOf, afterRecordOf}

@@ -1,5 +1,5 @@
 use mathlib.Core.Path.{sym, _∙_}
-use Rattle.rules.specs.Book.{withLastTick}
+use Rattle.rules.specs.With.{withLastTick}
 use Rattle.rules.specs.Rules.{staleness}
 use Rattle.machine.specs.Axes.{upFrom, axesFrom}
 use Rattle.machine.specs.Machine.{bookOf, afterTrip}

@@ -1,5 +1,5 @@
 use mathlib.Core.Path.{ap}
-use Rattle.rules.specs.Book.{withState}
+use Rattle.rules.specs.With.{withState}
 use Rattle.rules.specs.Protocol.{proceed}
 use Rattle.rules.specs.Rules.{refreshState}
 use Rattle.machine.specs.Machine.{bookOf, afterTick}

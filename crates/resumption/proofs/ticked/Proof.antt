@@ -1,5 +1,5 @@
 use mathlib.Core.Path.{refl, ap}
-use Rattle.rules.specs.Book.{withLastTick, withState}
+use Rattle.rules.specs.With.{withLastTick, withState}
 use Rattle.rules.specs.Rules.{refreshState}
 use Rattle.machine.specs.Machine.{bookOf}
 use Rattle.resumption.specs.Quiet.{quietly}

@@ -35,7 +35,7 @@ use denote.Exit.{yes}
 use Rattle.rules.specs.Protocol.{Input, Phase, react, Calls, Tick, Acquire, Cancel, Submit, Replies, Observed as ObservedReply, Executed, FellBack, Recorded}
 use Rattle.orders.specs.Replies.{observationIf, observationIn}
 use Rattle.steps.specs.Runtimes.{phaseIn, RuntimeSound, Moves}
-use Rattle.runtime_speed.specs.Laps.{request, orderOf, seenReply, follow, startedPhase, leasedPhase, phaseAfter, acquireCancelLap, scoreOf, Stands}
+use Rattle.runtime_speed.specs.Laps.{request, orderOf, seenReply, follow, startedPhase, leasedPhase, phaseOfLap, acquireCancelLap, scoreOf, Stands}
 use Rattle.steps.specs.declared.Runtime.{Runtime}
 use Rattle.steps.proofs.Runtime as T
 use Rattle.steps.proofs.Runtime.Laws as T′
@@ -96,15 +96,15 @@ fn-is = ap (λ (l : List Local). record { lifetimes = 0; outlives = []; params =
 
 -- where the runtime stands before a lap
 abbrev Before : ℕ → Runtime → Type 0
-Before i h = Stands h (phaseAfter (startedPhase 32) acquireCancelLap i)
+Before i h = Stands h (phaseOfLap (startedPhase 32) acquireCancelLap i)
 
 abbrev Moved : Input → Runtime → Runtime → Answer → Type 0
 Moved a h h′ r = Moves h′ r (react (phaseIn h) a)
 
 laps-on : (i : ℕ) (xX0 : LeaseRequest) → xX0 ≡ request → (xX1 : ℕ) → xX1 ≡ i + 1 → (h0 : Runtime) → Before i h0 → (h1 : Runtime) (r1 : Answer) → Moved (Calls (Acquire xX0 1)) h0 h1 r1 → (h2 : Runtime) (r2 : Answer) → Moved (Replies Recorded) h1 h2 r2 → (h3 : Runtime) (r3 : Answer) → Moved (Calls (Cancel 7 xX1 1)) h2 h3 r3 → (h4 : Runtime) (r4 : Answer) → Moved (Replies (FellBack true)) h3 h4 r4 → (h5 : Runtime) (r5 : Answer) → Moved (Replies Recorded) h4 h5 r5 → Before (i + 1) h5
-unfolding phaseAfter follow acquireCancelLap observationIf
+unfolding phaseOfLap follow acquireCancelLap observationIf
 laps-on i xX0 mX0 xX1 mX1 h0 s h1 r1 e1 h2 r2 e2 h3 r3 e3 h4 r4 e4 h5 r5 e5 =
-    let led : Stands h5 (follow (phaseAfter (startedPhase 32) acquireCancelLap i) (Calls (Acquire xX0 1) ∷ Replies Recorded ∷ Calls (Cancel 7 xX1 1) ∷ Replies (FellBack true) ∷ Replies Recorded ∷ [])) = leads (Replies Recorded) (leads (Replies (FellBack true)) (leads (Calls (Cancel 7 xX1 1)) (leads (Replies Recorded) (leads (Calls (Acquire xX0 1)) (s) (moved e1)) (moved e2)) (moved e3)) (moved e4)) (moved e5) in
+    let led : Stands h5 (follow (phaseOfLap (startedPhase 32) acquireCancelLap i) (Calls (Acquire xX0 1) ∷ Replies Recorded ∷ Calls (Cancel 7 xX1 1) ∷ Replies (FellBack true) ∷ Replies Recorded ∷ [])) = leads (Replies Recorded) (leads (Replies (FellBack true)) (leads (Calls (Cancel 7 xX1 1)) (leads (Replies Recorded) (leads (Calls (Acquire xX0 1)) (s) (moved e1)) (moved e2)) (moved e3)) (moved e4)) (moved e5) in
     subst (λ (n : ℕ). Before n h5) (sym (add-one i)) (rw (mX0, mX1) at led)
 
 fits-below : {i : ℕ} → i + 1 < 2 ^ 64 → i < 2 ^ 64
@@ -115,7 +115,7 @@ module _ {M : Type 1} (𝓤 : URA M) (H : Heap 𝓤) (A : Atoms 𝓤) (W : Given
   Post = walkOf 𝓤 H A f.ended stayed (f.clauses 𝓤 H A at-mem run) .post ((tt, tt, tt, (laps, tt), (vint w64 laps ∷ [], tt)), tt)
 
   abbrev Total : ℕ → Type 0
-  Total n = n ≡ scoreOf (phaseAfter (startedPhase 32) acquireCancelLap laps)
+  Total n = n ≡ scoreOf (phaseOfLap (startedPhase 32) acquireCancelLap laps)
 
   exits : (n : ℕ) (v : Val) → Total n → ent 𝓤 (sem 𝓤 H A (u64 .own n (v ∷ []))) (Post v)
   exits n v e =
@@ -125,7 +125,7 @@ module _ {M : Type 1} (𝓤 : URA M) (H : Heap 𝓤) (A : Atoms 𝓤) (W : Given
 
   module _ (𝓣 : Tables 𝓤 H) (known-own-started : Triple 𝓤 (𝓣 .C #own·started) (Own-started 𝓤 H A W at-mem run (𝓣 .C))) (known-own-request : Triple 𝓤 (𝓣 .C #own·request) (Own-request 𝓤 H A W at-mem run (𝓣 .C))) (known-own-next : Triple 𝓤 (𝓣 .C #own·next) (Own-next 𝓤 H A W at-mem run (𝓣 .C))) (known-own-score : Triple 𝓤 (𝓣 .C #own·score) (Own-score 𝓤 H A W at-mem run (𝓣 .C))) (known-outer-acquire : Triple 𝓤 (𝓣 .C #outer·acquire) (Outer-acquire 𝓤 H A W at-mem run (𝓣 .C))) (known-outer-recorded : Triple 𝓤 (𝓣 .C #outer·recorded) (Outer-recorded 𝓤 H A W at-mem run (𝓣 .C))) (known-outer-cancel : Triple 𝓤 (𝓣 .C #outer·cancel) (Outer-cancel 𝓤 H A W at-mem run (𝓣 .C))) (known-outer-fell-back : Triple 𝓤 (𝓣 .C #outer·fell-back) (Outer-fell-back 𝓤 H A W at-mem run (𝓣 .C))) where
     walk-shape : ent 𝓤 (⋆ 𝓤 H A []) (WpFn 𝓤 H (𝓣 .C) (𝓣 .Λ) fn (vint w64 laps ∷ []) Post)
-    unfolding phaseAfter
+    unfolding phaseOfLap
     walk-shape =
         shape.walk T′.mir (pointee (T.the-row .written)) O′.mir Q′.mir (tyInt w64) #own·started #own·request #own·next #outer·acquire #outer·recorded #outer·cancel #outer·fell-back #outer·recorded #own·score
         𝓤 H A W T.the-row O.the-row Q.the-row u64 refl (LL.val T.the-type T′.the-laws) (LL.tells T.the-type T′.the-laws) (LL.makes T.the-type T′.the-plain 𝓤 H A)

@@ -35,7 +35,7 @@ use denote.Exit.{yes}
 use Rattle.rules.specs.Protocol.{Input, Phase, react, Calls, Tick, Acquire, Cancel, Submit, Replies, Observed as ObservedReply, Executed, FellBack, Recorded}
 use Rattle.orders.specs.Replies.{observationIf, observationIn}
 use Rattle.steps.specs.Runtimes.{phaseIn, RuntimeSound, Moves}
-use Rattle.runtime_speed.specs.Laps.{request, orderOf, seenReply, follow, startedPhase, leasedPhase, phaseAfter, submitLap, scoreOf, Stands}
+use Rattle.runtime_speed.specs.Laps.{request, orderOf, seenReply, follow, startedPhase, leasedPhase, phaseOfLap, submitLap, scoreOf, Stands}
 use Rattle.steps.specs.declared.Runtime.{Runtime}
 use Rattle.steps.proofs.Runtime as T
 use Rattle.steps.proofs.Runtime.Laws as T′
@@ -99,15 +99,15 @@ fn-is = ap (λ (l : List Local). record { lifetimes = 0; outlives = []; params =
 
 -- where the runtime stands before a lap
 abbrev Before : ℕ → Runtime → Type 0
-Before i h = Stands h (phaseAfter (leasedPhase 32) submitLap i)
+Before i h = Stands h (phaseOfLap (leasedPhase 32) submitLap i)
 
 abbrev Moved : Input → Runtime → Runtime → Answer → Type 0
 Moved a h h′ r = Moves h′ r (react (phaseIn h) a)
 
 laps-on : (i : ℕ) (xX0 : Submission) → xX0 ≡ orderOf (i + 1) → (xX1 : Observed) → xX1 ≡ seenReply → (h0 : Runtime) → Before i h0 → (h1 : Runtime) (r1 : Answer) → Moved (Calls (Submit xX0)) h0 h1 r1 → (h2 : Runtime) (r2 : Answer) → Moved (Replies (ObservedReply (observationIn xX1))) h1 h2 r2 → (h3 : Runtime) (r3 : Answer) → Moved (Replies (Executed true)) h2 h3 r3 → (h4 : Runtime) (r4 : Answer) → Moved (Replies (ObservedReply (observationIn xX1))) h3 h4 r4 → (h5 : Runtime) (r5 : Answer) → Moved (Replies Recorded) h4 h5 r5 → Before (i + 1) h5
-unfolding phaseAfter follow submitLap observationIf
+unfolding phaseOfLap follow submitLap observationIf
 laps-on i xX0 mX0 xX1 mX1 h0 s h1 r1 e1 h2 r2 e2 h3 r3 e3 h4 r4 e4 h5 r5 e5 =
-    let led : Stands h5 (follow (phaseAfter (leasedPhase 32) submitLap i) (Calls (Submit xX0) ∷ Replies (ObservedReply (observationIn xX1)) ∷ Replies (Executed true) ∷ Replies (ObservedReply (observationIn xX1)) ∷ Replies Recorded ∷ [])) = leads (Replies Recorded) (leads (Replies (ObservedReply (observationIn xX1))) (leads (Replies (Executed true)) (leads (Replies (ObservedReply (observationIn xX1))) (leads (Calls (Submit xX0)) (s) (moved e1)) (moved e2)) (moved e3)) (moved e4)) (moved e5) in
+    let led : Stands h5 (follow (phaseOfLap (leasedPhase 32) submitLap i) (Calls (Submit xX0) ∷ Replies (ObservedReply (observationIn xX1)) ∷ Replies (Executed true) ∷ Replies (ObservedReply (observationIn xX1)) ∷ Replies Recorded ∷ [])) = leads (Replies Recorded) (leads (Replies (ObservedReply (observationIn xX1))) (leads (Replies (Executed true)) (leads (Replies (ObservedReply (observationIn xX1))) (leads (Calls (Submit xX0)) (s) (moved e1)) (moved e2)) (moved e3)) (moved e4)) (moved e5) in
     subst (λ (n : ℕ). Before n h5) (sym (add-one i)) (rw (mX0, mX1) at led)
 
 fits-below : {i : ℕ} → i + 1 < 2 ^ 64 → i < 2 ^ 64
@@ -118,7 +118,7 @@ module _ {M : Type 1} (𝓤 : URA M) (H : Heap 𝓤) (A : Atoms 𝓤) (W : Given
   Post = walkOf 𝓤 H A f.ended stayed (f.clauses 𝓤 H A at-mem run) .post ((tt, tt, tt, (laps, tt), (vint w64 laps ∷ [], tt)), tt)
 
   abbrev Total : ℕ → Type 0
-  Total n = n ≡ scoreOf (phaseAfter (leasedPhase 32) submitLap laps)
+  Total n = n ≡ scoreOf (phaseOfLap (leasedPhase 32) submitLap laps)
 
   exits : (n : ℕ) (v : Val) → Total n → ent 𝓤 (sem 𝓤 H A (u64 .own n (v ∷ []))) (Post v)
   exits n v e =
@@ -128,7 +128,7 @@ module _ {M : Type 1} (𝓤 : URA M) (H : Heap 𝓤) (A : Atoms 𝓤) (W : Given
 
   module _ (𝓣 : Tables 𝓤 H) (known-own-leased : Triple 𝓤 (𝓣 .C #own·leased) (Own-leased 𝓤 H A W at-mem run (𝓣 .C))) (known-own-order : Triple 𝓤 (𝓣 .C #own·order) (Own-order 𝓤 H A W at-mem run (𝓣 .C))) (known-own-seen : Triple 𝓤 (𝓣 .C #own·seen) (Own-seen 𝓤 H A W at-mem run (𝓣 .C))) (known-own-score : Triple 𝓤 (𝓣 .C #own·score) (Own-score 𝓤 H A W at-mem run (𝓣 .C))) (known-outer-submit : Triple 𝓤 (𝓣 .C #outer·submit) (Outer-submit 𝓤 H A W at-mem run (𝓣 .C))) (known-outer-observed : Triple 𝓤 (𝓣 .C #outer·observed) (Outer-observed 𝓤 H A W at-mem run (𝓣 .C))) (known-outer-executed : Triple 𝓤 (𝓣 .C #outer·executed) (Outer-executed 𝓤 H A W at-mem run (𝓣 .C))) (known-outer-recorded : Triple 𝓤 (𝓣 .C #outer·recorded) (Outer-recorded 𝓤 H A W at-mem run (𝓣 .C))) where
     walk-shape : ent 𝓤 (⋆ 𝓤 H A []) (WpFn 𝓤 H (𝓣 .C) (𝓣 .Λ) fn (vint w64 laps ∷ []) Post)
-    unfolding phaseAfter
+    unfolding phaseOfLap
     walk-shape =
         shape.walk T′.mir (pointee (T.the-row .written)) O′.mir S′.mir B′.mir #own·leased #own·order #own·seen #outer·submit #outer·observed #outer·executed #outer·observed #outer·recorded #own·score
         𝓤 H A W T.the-row O.the-row S.the-row B.the-row refl (LL.val T.the-type T′.the-laws) (LL.tells T.the-type T′.the-laws) (LL.makes T.the-type T′.the-plain 𝓤 H A)

@@ -1,4 +1,4 @@
-use Rattle.rules.specs.Book.{withFlags, withLastTick}
+use Rattle.rules.specs.With.{withFlags, withLastTick}
 use Rattle.rules.specs.Rules.{stopTime, masked, emergencyStop}
 use Rattle.machine.specs.Machine.{bookOf}
 use Rattle.machine.proofs.Steps.{gives-by}

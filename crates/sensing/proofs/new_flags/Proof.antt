@@ -1,5 +1,5 @@
 use mathlib.Core.Path.{sym, _∙_}
-use Rattle.rules.specs.Book.{withFlags, withEpoch}
+use Rattle.rules.specs.With.{withFlags, withEpoch}
 use Rattle.rules.specs.Rules.{bumpEpoch, meetsEstop, flagged, newFlags}
 use Rattle.machine.specs.Axes.{upFrom, axesFrom}
 use Rattle.machine.specs.Machine.{bookOf, afterTrip}

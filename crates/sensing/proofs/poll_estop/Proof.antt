@@ -1,5 +1,5 @@
 use borrow.Author.Tests.{eq-eqb, ne-eqb}
-use Rattle.rules.specs.Book.{withEstopSeen}
+use Rattle.rules.specs.With.{withEstopSeen}
 use Rattle.rules.specs.Rules.{pollEstop}
 use Rattle.machine.specs.Machine.{bookOf, afterTrip}
 use Rattle.machine.proofs.Steps.{gives-by}

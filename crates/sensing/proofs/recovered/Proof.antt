@@ -1,5 +1,5 @@
 use borrow.Author.Tests.{not-true, not-false}
-use Rattle.rules.specs.Book.{withInvalidCount, withState}
+use Rattle.rules.specs.With.{withInvalidCount, withState}
 use Rattle.rules.specs.Rules.{recovered}
 use Rattle.machine.specs.Machine.{bookOf}
 use Rattle.machine.proofs.Steps.{gives-by}

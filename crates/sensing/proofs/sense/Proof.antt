@@ -1,5 +1,5 @@
 use borrow.Author.Tests.{lt-ltb, le-ltb, eq-eqb, ne-eqb}
-use Rattle.rules.specs.Book.{withStateAt}
+use Rattle.rules.specs.With.{withStateAt}
 use Rattle.rules.specs.Rules.{sense}
 use Rattle.machine.specs.Machine.{bookOf}
 use Rattle.machine.proofs.Steps.{gives-by}

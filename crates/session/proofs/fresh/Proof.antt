@@ -1,4 +1,4 @@
-use Rattle.steps.specs.Runtimes.{phaseAt}
+use Rattle.steps.specs.Runtimes.{phaseAtStage}
 use Rattle.start.specs.Starts.{startPhaseAt, SoundAt}
 use mathlib.Core.Path.{refl}
 use Rattle.session.proofs.Standings.{gone-not-started}
@@ -23,7 +23,7 @@ empty-requires-2 : tie.Need-empty-requires-2
 empty-requires-2 c κs = search needs
 
 returns : tie.Need-returns
-unfolding opening phaseAt startPhaseAt SoundAt
+unfolding opening phaseAtStage startPhaseAt SoundAt
 returns c =
     let k = c .empty2 .ensures in (
       record { starting = tt; core = λ e. absurd (gone-not-started e); ring = k .kept },

@@ -1,5 +1,5 @@
 use mathlib.Core.Path.{sym}
-use Rattle.steps.specs.Runtimes.{receiptsOf}
+use Rattle.steps.specs.Runtimes.{receiptsAt}
 use borrow.Author.Needs.{needs}
 use Rattle.steps.proofs.snapshot.Statement.{statement}
 use Rattle.steps.proofs.snapshot.Tie as tie
@@ -11,7 +11,7 @@ snapshot-requires : tie.Need-snapshot-requires
 snapshot-requires c κs = search needs
 
 returns : tie.Need-returns
-returns c = λ slots k. c .snapshot .ensures (receiptsOf _ slots) (sym (c .before .receipt-count .ensures slots k))
+returns c = λ slots k. c .snapshot .ensures (receiptsAt _ slots) (sym (c .before .receipt-count .ensures slots k))
 
 pub snapshot-spec : {M : Type 1} → statement M
 snapshot-spec = tie.close (tie.spec receipt-count-requires snapshot-requires returns)

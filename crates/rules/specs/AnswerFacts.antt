@@ -1,0 +1,114 @@
+-- What an answer says is what was handed out: each call has its own kind of answer; an order is answered with its receipt, a grant or a
+-- renewal with the lease that stands.
+use Prim.Native.Nat.{ℕ, _+_, _<_}
+use mathlib.Core.Bool.{Bool}
+use mathlib.Core.List.{List, [], _∷_}
+use mathlib.Core.Logic.{_⊎_, _≢_}
+use mathlib.Core.Option.{some, none}
+use mathlib.Core.Path.{_≡_}
+use Rattle.model.specs.declared.Decision.the-variants as Decision
+use Rattle.model.specs.declared.Lease.{Lease}
+use Rattle.model.specs.declared.LeaseRequest.{LeaseRequest}
+use Rattle.model.specs.declared.Reason.{Reason}
+use Rattle.model.specs.declared.Reason.the-variants as Reason
+use Rattle.model.specs.declared.Receipt.{Receipt}
+use Rattle.model.specs.declared.Renewal.{Renewal}
+use Rattle.model.specs.declared.Submission.{Submission}
+use Rattle.rules.specs.Lists.{Mem}
+use Rattle.rules.specs.Book.{Book, leaseAt}
+use Rattle.rules.specs.Receipts.{top}
+use Rattle.rules.specs.Interaction.{Answer, Returned, Polled, Succeeded, Leased, Refused, Submitted}
+use Rattle.rules.specs.Admission.{firstFailing, acquireChecks, renewChecks}
+use Rattle.rules.specs.Protocol.{Call, Tick, UpdateState, EmergencyStop, PollEstop, RecoverLocal, Acquire, Renew, Cancel, Submit, ItemObserve, ItemRecord, Answers, Start, Idle}
+use Rattle.rules.specs.Log.{History, phaseAfter, outputAfter, Took, Replied, Handed, Ended, Log, logOf, bookBefore, Exchange, current, nextNumber}
+use Rattle.rules.specs.Way.{Ticked}
+
+-- the receipts with which submissions ended, newest first
+unfoldable pub answeredReceipts : Log → List Receipt
+answeredReceipts [] = []
+answeredReceipts (Took c ∷ l) = answeredReceipts l
+answeredReceipts (Replied r ∷ l) = answeredReceipts l
+answeredReceipts (Handed i ∷ l) = answeredReceipts l
+answeredReceipts (Ended Returned ∷ l) = answeredReceipts l
+answeredReceipts (Ended (Polled new) ∷ l) = answeredReceipts l
+answeredReceipts (Ended Succeeded ∷ l) = answeredReceipts l
+answeredReceipts (Ended (Leased x) ∷ l) = answeredReceipts l
+answeredReceipts (Ended (Refused reason) ∷ l) = answeredReceipts l
+answeredReceipts (Ended (Submitted r) ∷ l) = r ∷ answeredReceipts l
+
+-- the numbers of these receipts fall, from below n on
+abbrev pub Falling : ℕ → List Receipt → Type 0
+Falling n [] = Unit
+Falling n (r ∷ rs) = (r .«receipt_id» < n) × Falling (r .«receipt_id») rs
+
+-- the answers that a call has
+pub data AnswersTo : Call → Answer → Type 0 where
+  ticks : {now : ℕ} → AnswersTo (Tick now) Returned
+  updates : {flags now : ℕ} → AnswersTo (UpdateState flags now) Returned
+  stops : {now : ℕ} → AnswersTo (EmergencyStop now) Returned
+  polls : {raised now : ℕ} {new : Bool} → AnswersTo (PollEstop raised now) (Polled new)
+  recovers : {now : ℕ} → AnswersTo (RecoverLocal now) Succeeded
+  recovers-not : {now : ℕ} {reason : Reason} → AnswersTo (RecoverLocal now) (Refused reason)
+  acquires : {q : LeaseRequest} {now : ℕ} {l : Lease} → AnswersTo (Acquire q now) (Leased l)
+  acquires-not : {q : LeaseRequest} {now : ℕ} {reason : Reason} → AnswersTo (Acquire q now) (Refused reason)
+  renews : {q : Renewal} {l : Lease} → AnswersTo (Renew q) (Leased l)
+  renews-not : {q : Renewal} {reason : Reason} → AnswersTo (Renew q) (Refused reason)
+  cancels : {owner id now : ℕ} → AnswersTo (Cancel owner id now) Succeeded
+  cancels-not : {owner id now : ℕ} {reason : Reason} → AnswersTo (Cancel owner id now) (Refused reason)
+  submits : {o : Submission} {r : Receipt} → AnswersTo (Submit o) (Submitted r)
+
+-- the receipt is an order's, and this one's
+pub record OfOrder (o : Submission) (r : Receipt) : Type 0 where
+  pub decision : (r .decision ≡ Decision.Executed) ⊎ ((r .decision ≡ Decision.Rejected) ⊎ (r .decision ≡ Decision.Failed))
+  pub principal : r .principal ≡ o .principal
+  pub action : r .«action_id» ≡ o .action .«action_id»
+  pub sequence : r .sequence ≡ o .action .sequence
+  pub capability : r .capability ≡ o .action .capability
+  pub lease : r .«lease_id» ≡ o .action .«lease_id»
+  pub requested : r .requested ≡ o .action .parameters
+  pub received : r .«received_at» ≡ o .«received_at»
+  pub admitted : r .«admitted_at» ≡ o .now
+
+-- an order is answered with its own receipt, which was handed out in this call; it is rejected unless it was admitted
+pub record OrderAnswered (x : Exchange) (r : Receipt) : Type 0 where
+  pub order : Submission
+  pub call : x .call ≡ Submit order
+  pub own : OfOrder order r
+  pub handed : Mem (ItemRecord r) (x .items)
+  pub admitted : (((axis : ℕ) × Mem (ItemObserve axis) (x .items)) × (r .decision ≢ Decision.Rejected)) ⊎ (r .decision ≡ Decision.Rejected)
+
+-- the lease is what the call asked for, every check of it holds in the book that its tick left, and its receipt says which of the two it was
+pub data Asked : Call → ℕ → Book → Receipt → Lease → Type 0 where
+  granted : {q : LeaseRequest} {now : ℕ} {b : Book} {r : Receipt} {l : Lease} → firstFailing (acquireChecks q now b) ≡ none
+      → r .reason ≡ Reason.LeaseGranted → r .resource ≡ q .resource → l .id ≡ b .nextLease
+      → l .owner ≡ q .owner → l .resource ≡ q .resource → l .capabilities ≡ q .capabilities → l .limits ≡ q .limits
+      → l .«expires_at» ≡ now + q .«duration_ms» → l .«last_sequence» ≡ 0 → l .«last_renewal» ≡ 0 → Asked (Acquire q now) now b r l
+  renewed : {q : Renewal} {b : Book} {r : Receipt} {l old : Lease} → firstFailing (renewChecks q b) ≡ none
+      → r .reason ≡ Reason.LeaseRenewed → leaseAt b (r .resource) ≡ some old
+      → l .id ≡ q .«lease_id» → l .owner ≡ q .owner → l .«last_renewal» ≡ q .renewal
+      → l .«expires_at» ≡ q .now + q .«duration_ms» → l .id ≡ old .id → l .resource ≡ old .resource → l .capabilities ≡ old .capabilities
+      → l .limits ≡ old .limits → l .«last_sequence» ≡ old .«last_sequence» → Asked (Renew q) (q .now) b r l
+
+-- its receipt was handed out in the call that it answers, after the tick, and it stands on the axis that the receipt names
+pub record LeaseAnswered (s : Start) (h : History) (x : Exchange) (before : Book) (l : Lease) : Type 0 where
+  pub now : ℕ
+  pub ticked-book : Book
+  pub ticked : Ticked now before x ticked-book
+  pub receipt : Receipt
+  pub asked : Asked (x .call) now ticked-book receipt l
+  pub handed : ticked .laterItems ≡ ItemRecord receipt ∷ []
+  pub control : receipt .decision ≡ Decision.Control
+  pub lease : receipt .«lease_id» ≡ l .id
+  pub owner : receipt .principal ≡ l .owner
+  pub book : Book
+  pub idle : phaseAfter s h ≡ Idle book
+  pub stands : leaseAt book (receipt .resource) ≡ some l
+
+-- after every history of every start
+pub record AnswerFacts (s : Start) (h : History) : Type 0 where
+  pub kind : (x : Exchange) (a : Answer) → outputAfter s h ≡ Answers a → current (logOf s h) ≡ some x → AnswersTo (x .call) a
+  pub order : (x : Exchange) (r : Receipt) → outputAfter s h ≡ Answers (Submitted r) → current (logOf s h) ≡ some x → OrderAnswered x r
+  pub lease : (x : Exchange) (b : Book) (l : Lease) → outputAfter s h ≡ Answers (Leased l) → current (logOf s h) ≡ some x
+      → bookBefore s h ≡ some b → LeaseAnswered s h x b l
+  -- the numbers of the orders' receipts rise from answer to answer, below the top of 64 bits
+  pub rising : nextNumber (logOf s h) < top → Falling (nextNumber (logOf s h)) (answeredReceipts (logOf s h))
