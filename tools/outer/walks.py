@@ -104,7 +104,7 @@ SLOT, SLOT_CALLEES = 'LookSlot', ['slot_at', 'receipt_in']
 # follows from that, e; and from the runtime's soundness, good, if it is asked
 # for.
 INDEX = ('index', 'usize')
-IN_CORE = 'e (receiptsOf (h .places) (h .slots))'
+IN_CORE = 'e (receiptsAt (h .places) (h .slots))'
 READINGS = {
     'state': (
         'Look0', [], ('model', 'RuntimeState'),
