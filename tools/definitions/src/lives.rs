@@ -217,7 +217,7 @@ fn top_life(seed: u64, number: u64, calls: u64) -> Life {
         let Some(full) = full.next() else {
             return false;
         };
-        match Counter::ALL.get(turn) {
+        match Counter::EXHAUSTIBLE.get(turn) {
             Some(counter) => sets == [*counter],
             None => sets.len() == 1 && fallbacks(trace, Reason::Clock).any(|n| n > full),
         }

@@ -27,7 +27,7 @@ use Rattle.model.specs.declared.ExecutionClass.the-variants as Class
 use Rattle.model.specs.declared.Reason.the-variants as Reason
 use Rattle.model.specs.declared.RuntimeState.the-variants as State
 use Rattle.model.specs.declared.Verification.the-variants as Verification
-use Rattle.rules.specs.With.{withEpoch, withNextReceipt, withNextLease}
+use Rattle.rules.specs.With.{withEpoch, withNextReceipt, withNextLease, withInvalidCount}
 use Rattle.rules.specs.Interaction.{Returned, Polled, Succeeded, Leased, Refused, Submitted}
 use Rattle.rules.specs.Protocol.{Tick, UpdateState, EmergencyStop, PollEstop, RecoverLocal, Acquire, Renew, Cancel, Submit}
 use Rattle.rules.specs.Protocol.{Observed, Executed, FellBack, Recorded}

@@ -367,6 +367,7 @@ pub fn setter((counter, value): (Counter, u64)) -> String {
         Counter::Epoch => "withEpoch",
         Counter::NextReceipt => "withNextReceipt",
         Counter::NextLease => "withNextLease",
+        Counter::InvalidCount => "withInvalidCount",
     };
     format!("{name} {value}")
 }

@@ -49,7 +49,7 @@ fn each_counter_is_set_alone_in_some_life() {
     if !oracle::HAS_COUNTERS {
         return;
     }
-    for (turn, counter) in Counter::ALL.into_iter().enumerate() {
+    for (turn, counter) in Counter::EXHAUSTIBLE.into_iter().enumerate() {
         let life = lives::life(8, 20 * turn as u64 + 9, CALLS);
         let steps = life.steps.iter();
         let sets: Vec<Counter> = steps

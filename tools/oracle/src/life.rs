@@ -22,16 +22,27 @@ pub enum Counter {
     Epoch,
     NextReceipt,
     NextLease,
+    /// The count of rejections, which has 16 bits.
+    InvalidCount,
 }
 
 impl Counter {
-    pub const ALL: [Self; 3] = [Self::Epoch, Self::NextReceipt, Self::NextLease];
+    pub const ALL: [Self; 4] = [
+        Self::Epoch,
+        Self::NextReceipt,
+        Self::NextLease,
+        Self::InvalidCount,
+    ];
+
+    /// Those of 64 bits: a tick that finds one of them at the top trips.
+    pub const EXHAUSTIBLE: [Self; 3] = [Self::Epoch, Self::NextReceipt, Self::NextLease];
 
     pub const fn name(self) -> &'static str {
         match self {
             Self::Epoch => "epoch",
             Self::NextReceipt => "next_receipt",
             Self::NextLease => "next_lease",
+            Self::InvalidCount => "invalid_count",
         }
     }
 }

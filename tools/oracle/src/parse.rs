@@ -346,11 +346,12 @@ impl Words<'_> {
         }
         let word = self.next("the counter")?;
         let counter = Counter::ALL.into_iter().find(|c| c.name() == word);
-        let counter = counter
-            .ok_or_else(|| format!("`{word}` is not one of epoch, next_receipt, next_lease"))?;
-        Ok(Call::Set {
-            counter,
-            value: self.number(counter.name())?,
-        })
+        let names = || Counter::ALL.map(Counter::name).join(", ");
+        let counter = counter.ok_or_else(|| format!("`{word}` is not one of {}", names()))?;
+        let value = match counter {
+            Counter::InvalidCount => self.number::<u16>(counter.name())?.into(),
+            _ => self.number(counter.name())?,
+        };
+        Ok(Call::Set { counter, value })
     }
 }

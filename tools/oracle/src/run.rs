@@ -136,7 +136,8 @@ pub struct LifeTrace {
 /// Runs a whole life.
 ///
 /// # Panics
-/// If the life holds a `Call::Set` and this is not the build with `counters`.
+/// If the life holds a `Call::Set` and this is not the build with `counters`, or the number is too
+/// large for the counter.
 pub fn run_life(life: &Life, options: Options) -> LifeTrace {
     let (start, runner) = Runner::start(&life.start, options);
     let (calls, skipped) = match runner {
@@ -192,7 +193,8 @@ impl Runner {
     }
 
     /// # Panics
-    /// If the call is `Call::Set` and this is not the build with `counters`.
+    /// If the call is `Call::Set` and this is not the build with `counters`, or the number is too
+    /// large for the counter.
     pub fn call(&mut self, step: &Step) -> CallTrace {
         let before = self.options.waits.then(|| copy(&self.runtime));
         let executed = self.executed;
@@ -255,7 +257,8 @@ fn item_trace((item, replied): (Item, Replied), awaited: Option<Readings>) -> It
 /// Makes one call with whichever driver.
 ///
 /// # Panics
-/// If the call is `Call::Set` and this is not the build with `counters`.
+/// If the call is `Call::Set` and this is not the build with `counters`, or the number is too
+/// large for the counter.
 pub fn apply(runtime: &mut Runtime, call: &Call, driver: &mut impl Driver) -> Answer {
     match *call {
         Call::Tick { now } => runtime.tick(now, driver),
@@ -308,6 +311,10 @@ fn set(runtime: &mut Runtime, counter: Counter, value: u64) {
         Counter::Epoch => runtime.set_epoch(value),
         Counter::NextReceipt => runtime.set_next_receipt(value),
         Counter::NextLease => runtime.set_next_lease(value),
+        Counter::InvalidCount => {
+            let count = u16::try_from(value).expect("the count of rejections has 16 bits");
+            runtime.set_invalid_count(count);
+        }
     }
 }
 

@@ -158,6 +158,27 @@ fn the_rejection_count_outlives_trips_failures_and_failed_recoveries() {
 }
 
 #[test]
+fn the_rejection_count_trips_at_the_limit_from_where_it_is_set() {
+    let wrong = drive("1001 0", 2, "now 10");
+    let call = last(&format!("{A}set invalid_count 30\n{wrong}"));
+    assert_eq!(hidden(&call.after).invalid_count, 31);
+    assert_eq!(call.after.state, RuntimeState::Armed);
+    let call = last(&format!("{A}set invalid_count 31\n{wrong}"));
+    assert_eq!(hidden(&call.after).invalid_count, 32);
+    assert_eq!(items(&call)[1], "fallback 0 21");
+}
+
+#[test]
+fn the_rejection_count_stays_at_the_top_of_16_bits() {
+    let wrong = drive("0 0", 1, "now 10");
+    for count in [u16::MAX - 1, u16::MAX] {
+        let call = last(&format!("{START}set invalid_count {count}\n{wrong}"));
+        assert_eq!(hidden(&call.after).invalid_count, u16::MAX);
+        assert_eq!(call.after.state, RuntimeState::SafeIdle);
+    }
+}
+
+#[test]
 fn a_raise_number_is_marked_seen_before_the_stop() {
     let call = last(&format!("{A}poll_estop raised 3 now 5\n"));
     assert_eq!(hidden(awaited(&call, 0)).estop_seen, 3);

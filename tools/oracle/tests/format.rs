@@ -127,6 +127,9 @@ fn set_is_for_the_build_with_counters() {
         assert!(result.is_ok());
         let error = parse(&format!("{START}set flags 5\n")).expect_err("no counter");
         assert!(error.message.contains("`flags` is not one of epoch"));
+        assert!(parse(&format!("{START}set invalid_count 65535\n")).is_ok());
+        let error = parse(&format!("{START}set invalid_count 65536\n")).expect_err("16 bits");
+        assert!(error.message.contains("range of u16"));
     } else {
         let error = result.expect_err("the plain build");
         assert_eq!(error.line, 2);

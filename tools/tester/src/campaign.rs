@@ -185,7 +185,7 @@ fn faults(seed: u64, number: u64) -> Vec<Trial> {
 fn counters(seed: u64, number: u64) -> Vec<Trial> {
     let mut trials = Vec::new();
     for call in 0..PLACES {
-        for counter in Counter::ALL {
+        for counter in Counter::EXHAUSTIBLE {
             trials.extend((0..=BELOW).map(|below| {
                 let twist = Twist::Counter {
                     call,

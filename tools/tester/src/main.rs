@@ -88,7 +88,7 @@ fn run_file(command: &Command, file: &Path) -> io::Result<bool> {
         let unread = |e: io::Error| io::Error::other(format!("{}: {e}", file.display()));
         fs::read_to_string(file).map_err(unread)?
     };
-    let lives = oracle::parse::parse(&text)
+    let lives = wire::lives::read(&text)
         .map_err(|error| io::Error::other(format!("{}:{error}", file.display())))?;
     let trial = Trial {
         about: file.display().to_string(),

@@ -247,16 +247,20 @@ impl Wrong {
             },
             Counter::NextReceipt => self.snapshot().map(|(_, next)| next),
             Counter::NextLease => Some(self.life.last_lease + 1),
+            // No record sets it.
+            Counter::InvalidCount => return Output::Malformed,
         };
         let Some(base) = base else {
             return Output::NoRuntime;
         };
         let by = value.wrapping_sub(base);
-        *match counter {
-            Counter::Epoch => &mut self.life.epoch,
-            Counter::NextReceipt => &mut self.life.receipt,
-            Counter::NextLease => &mut self.life.lease,
-        } = Shift { base, by };
+        let shift = Shift { base, by };
+        match counter {
+            Counter::Epoch => self.life.epoch = shift,
+            Counter::NextReceipt => self.life.receipt = shift,
+            Counter::NextLease => self.life.lease = shift,
+            Counter::InvalidCount => {}
+        }
         Output::Set
     }
 

@@ -5,7 +5,8 @@ use crate::play::{Cut, Plan, Weaving};
 use crate::weave::Amount;
 use definitions::vary::vary;
 use oracle::generate::{Generator, Style};
-use oracle::life::Life;
+use oracle::life::{Counter, Life};
+use oracle::parse::{parse, ParseError};
 use oracle::prng::Prng;
 use oracle::runtime_core::MAX_CAPABILITIES;
 
@@ -25,6 +26,20 @@ const ORDINARY_EVERY: u64 = 5;
 
 /// The most calls of a life with everything put in everywhere.
 const MOST_WITH_EVERYTHING: usize = 6;
+
+/// The lives of a text. No record sets the count of rejections, so a line that does is bad here.
+pub fn read(text: &str) -> Result<Vec<Life>, ParseError> {
+    let lives = parse(text)?;
+    let count = Counter::InvalidCount.name();
+    let sets_it = |line: &str| line.split_whitespace().take(2).eq(["set", count]);
+    match text.lines().position(sets_it) {
+        None => Ok(lives),
+        Some(index) => Err(ParseError {
+            line: index + 1,
+            message: format!("no record sets `{count}`"),
+        }),
+    }
+}
 
 /// The lives of a seed.
 #[derive(Clone, Copy, Debug)]

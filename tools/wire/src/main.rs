@@ -9,7 +9,7 @@ use wire::batch::Run;
 use wire::compare::{compare, MakeEngine, Request};
 use wire::engine;
 use wire::format::OUTPUT_BYTES;
-use wire::lives::Lives;
+use wire::lives::{self, Lives};
 use wire::options::{Command, Many, USAGE};
 use wire::report;
 use wire::vectors;
@@ -50,7 +50,7 @@ fn run(command: &Command) -> io::Result<bool> {
         }
         Command::Check { folder } => check(folder),
         Command::Encode { life, folder } => {
-            let lives = oracle::parse::parse(&fs::read_to_string(life)?).map_err(io::Error::other)?;
+            let lives = lives::read(&fs::read_to_string(life)?).map_err(io::Error::other)?;
             say(&vectors::encode(folder, lives)?.to_string())?;
             Ok(true)
         }

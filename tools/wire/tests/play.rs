@@ -6,7 +6,7 @@ use definitions::weave::plain;
 use oracle::run::{run_life, Options};
 use wire::batch::{Batch, Run};
 use wire::format::{Input, Opening, Output, OUTPUT_BYTES};
-use wire::lives::Lives;
+use wire::lives::{self, Lives};
 use wire::machine::{Flaw, Machine};
 use wire::odd;
 use wire::play::{play, Plan};
@@ -193,6 +193,14 @@ fn an_engine_over_the_rust_answers_the_odd_lists() {
         let run = Run::of(&mut Machine(Flaw::None), &batch.input, batch.demanded.len());
         assert_eq!(run.difference(&batch.demanded), None, "{name}");
     }
+}
+
+#[test]
+fn a_life_that_no_record_stands_for_is_not_read() {
+    let life = |set: &str| format!("profile\nstart boot_id 42 now 0 flags 0\nset {set} 5\n");
+    assert_eq!(lives::read(&life("epoch")).is_ok(), oracle::HAS_COUNTERS);
+    let error = lives::read(&life("invalid_count")).expect_err("no record");
+    assert_eq!(error.line, 3);
 }
 
 #[test]

@@ -1,5 +1,6 @@
 //! The rows that the counts have, also where nothing is counted.
 
+use oracle::life::Counter;
 use oracle::runtime_core::Reason;
 use oracle::show::reason_text;
 
@@ -93,8 +94,8 @@ pub fn rows() -> Rows {
     answers(&mut rows);
     out_of_place(&mut rows);
     readings(&mut rows);
-    let set = ["epoch", "next_receipt", "next_lease"];
-    group(&mut rows, "lives that set", &set);
+    let counters = Counter::ALL.map(Counter::name);
+    group(&mut rows, "lives that set", &counters);
     let lives = [
         "counters set",
         "over 32 admitted orders",

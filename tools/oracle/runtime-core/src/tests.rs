@@ -16,6 +16,10 @@ impl Runtime {
         self.next_lease = value;
     }
 
+    pub fn set_invalid_count(&mut self, value: u16) {
+        self.invalid_count = value;
+    }
+
     /// One push into the ring of receipts, as every rule does it.
     pub fn push_receipt(&mut self, receipt: Receipt, driver: &mut impl Driver) {
         self.record(receipt, driver);

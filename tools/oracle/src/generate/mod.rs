@@ -169,7 +169,7 @@ struct Maker {
 impl Maker {
     fn new(rng: Prng, style: Style, runner: Runner, readings: Readings) -> Self {
         let counters: &[Counter] = match style {
-            Style::Counters => &Counter::ALL,
+            Style::Counters => &Counter::EXHAUSTIBLE,
             _ => &[],
         };
         Self {

@@ -68,11 +68,13 @@ impl Shown {
     }
 
     fn set(&mut self, (counter, value): (Counter, u64)) {
-        *match counter {
-            Counter::Epoch => &mut self.epoch,
-            Counter::NextReceipt => &mut self.next_receipt,
-            Counter::NextLease => &mut self.next_lease,
-        } = value;
+        match counter {
+            Counter::Epoch => self.epoch = value,
+            Counter::NextReceipt => self.next_receipt = value,
+            Counter::NextLease => self.next_lease = value,
+            // No output shows it.
+            Counter::InvalidCount => {}
+        }
     }
 
     /// The epoch and the lease number that the moment shows, each against the last one.

@@ -30,8 +30,11 @@ impl Row {
     }
 }
 
-/// A group of the catalogue that is not compared here.
-const LEFT_OUT: &str = "book compared";
+/// Whether a row of the catalogue has no part here: no record shows a book or sets the count of
+/// rejections.
+fn is_left_out(group: &str, name: &str) -> bool {
+    group == "book compared" || name == Counter::InvalidCount.name()
+}
 
 const INPUT_RECORD: &str = "input record";
 const OUTPUT_RECORD: &str = "output record";
@@ -138,7 +141,7 @@ impl Counts {
             count: *count,
             listed: is_record(group),
         });
-        let compared = listed.iter().filter(|(group, _)| *group != LEFT_OUT);
+        let compared = listed.iter().filter(|(g, n)| !is_left_out(g, n));
         let catalogued = compared.map(|(group, name)| {
             let found = named.iter().find(|(g, n, _)| g == group && n == name);
             Row {
@@ -296,7 +299,7 @@ impl<'a> Rows<'a> {
     }
 
     fn lives(&mut self) {
-        for counter in Counter::ALL {
+        for counter in Counter::EXHAUSTIBLE {
             let count = self.counts.cells[SETS + counter as usize];
             self.row("lives that set", counter.name(), count);
         }

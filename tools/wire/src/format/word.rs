@@ -119,7 +119,7 @@ pub const REASONS: [Reason; 28] = [
     Reason::Startup,
 ];
 
-const COUNTERS: [Counter; 3] = Counter::ALL;
+const COUNTERS: [Counter; 3] = Counter::EXHAUSTIBLE;
 
 pub const WORD_BYTES: usize = 8;
 
