@@ -28,7 +28,8 @@ const BOOKS_OF_A_LONG_LIFE: usize = 6;
 /// What is to be proved of a life.
 #[derive(Clone, Debug, PartialEq, Eq)]
 pub struct Fact {
-    pub number: u64,
+    /// How the names of its declarations end: the number of a random life.
+    pub label: String,
     pub life: Life,
     pub script: Script,
     /// The expected outputs as terms, that of the start first.
@@ -84,19 +85,21 @@ impl Reached {
 
 impl Fact {
     pub fn name(&self) -> String {
-        format!("life{}", self.number)
+        format!("life{}", self.label)
     }
 }
 
 /// So many lives, with what is to be proved of them.
 pub fn facts(seed: u64, lives: u64, calls: u64) -> Vec<Fact> {
     let choice = choose(seed, lives, calls);
-    let new = choice.new.iter().map(|n| fact(seed, *n, calls, false));
-    let others = choice.others.iter();
-    let others = others.map(|n| fact(seed, *n, calls, !is_long(*n)));
-    let mut facts: Vec<Fact> = new.chain(others).collect();
-    facts.sort_by_key(|fact| fact.number);
+    let new = choice.new.iter().map(|n| (*n, false));
+    let others = choice.others.iter().map(|n| (*n, !is_long(*n)));
+    let mut all: Vec<(u64, bool)> = new.chain(others).collect();
+    all.sort_unstable();
+    let facts = all.into_iter();
     facts
+        .map(|(number, may_be_cut)| fact(seed, number, calls, may_be_cut))
+        .collect()
 }
 
 /// The life of this number.
@@ -125,7 +128,7 @@ fn fact(seed: u64, number: u64, calls: u64, may_be_cut: bool) -> Fact {
     let long = is_long(number);
     let most = if long { BOOKS_OF_A_LONG_LIFE } else { BOOKS };
     Fact {
-        number,
+        label: number.to_string(),
         outputs: script.outputs().map(|o| text::output(&o)).collect(),
         books: books(&moments, &script, most, &mut rng),
         reached: Reached::by(&moments),

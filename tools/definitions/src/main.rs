@@ -5,7 +5,7 @@ use definitions::lives::{self, Fact};
 use definitions::narrow::Narrowing;
 use definitions::options::{Options, USAGE};
 use definitions::plant::{plant, Planted};
-use definitions::prover::{self, Verdict};
+use definitions::prover::{self, Refusal, Verdict};
 use definitions::scratch;
 use std::fs;
 use std::io;
@@ -114,9 +114,9 @@ fn failed<'a>(facts: &'a [Fact], verdict: &Verdict) -> Vec<&'a Fact> {
     if verdict.proved {
         return Vec::new();
     }
-    let refused: Vec<Option<u64>> = verdict.refusals.iter().map(|r| r.life()).collect();
-    let only_lives = !refused.is_empty() && !refused.contains(&None);
-    let is_failed = |f: &&Fact| !only_lives || refused.contains(&Some(f.number));
+    let is_of_a_life = |r: &Refusal| facts.iter().any(|f| r.is_about(&f.label));
+    let only_lives = !verdict.refusals.is_empty() && verdict.refusals.iter().all(is_of_a_life);
+    let is_failed = |f: &&Fact| !only_lives || verdict.refuses_life(&f.label);
     facts.iter().filter(is_failed).collect()
 }
 
@@ -126,7 +126,7 @@ fn show_failures(
     folder: &Path,
     root: &Path,
 ) -> io::Result<()> {
-    let named = |f: &&&Fact| verdict.refusals.iter().any(|r| r.life() == Some(f.number));
+    let named = |f: &&&Fact| verdict.refuses_life(&f.label);
     let mut named: Vec<&&Fact> = failed.iter().filter(named).collect();
     named.sort_by_key(|fact| fact.outputs.len());
     let (shown, others) = named.split_at(named.len().min(SHOWN));

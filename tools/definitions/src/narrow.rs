@@ -6,7 +6,7 @@ use crate::prover::{self, cut, Verdict};
 use crate::scratch::{book_term, column, computed, history, proved, write};
 use crate::text;
 use std::io;
-use std::path::Path;
+use std::path::{Path, PathBuf};
 
 /// Into how many parts the outputs are taken at each step.
 const PARTS: usize = 8;
@@ -14,16 +14,17 @@ const PARTS: usize = 8;
 /// A life that is looked into.
 pub struct Narrowing<'a> {
     fact: &'a Fact,
-    folder: &'a Path,
+    folder: PathBuf,
     root: &'a Path,
     steps: usize,
 }
 
 impl<'a> Narrowing<'a> {
-    pub fn new(fact: &'a Fact, folder: &'a Path, root: &'a Path) -> Self {
+    /// Its crates stand below a folder of its own in this one.
+    pub fn new(fact: &'a Fact, folder: &Path, root: &'a Path) -> Self {
         Self {
             fact,
-            folder,
+            folder: folder.join(format!("narrow{}", fact.label)),
             root,
             steps: 0,
         }
@@ -38,11 +39,11 @@ impl<'a> Narrowing<'a> {
     }
 
     fn check(&mut self, body: &str) -> io::Result<Verdict> {
-        let name = format!("narrow{}_{}", self.fact.number, self.steps);
+        let name = format!("step{}", self.steps);
         self.steps += 1;
         let module = ("Parts".to_string(), history(self.fact) + body);
-        write(self.folder, &name, self.root, &[module])?;
-        prover::check(self.folder, &name, self.root)
+        write(&self.folder, &name, self.root, &[module])?;
+        prover::check(&self.folder, &name, self.root)
     }
 
     /// The place of the first output that differs; none if none does.

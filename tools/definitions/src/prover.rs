@@ -29,6 +29,11 @@ pub struct Verdict {
 }
 
 impl Verdict {
+    /// Whether it refuses a declaration of the life with this label.
+    pub fn refuses_life(&self, label: &str) -> bool {
+        self.refusals.iter().any(|r| r.is_about(label))
+    }
+
     /// Whether it refuses the declaration of this name.
     pub fn refuses(&self, name: &str) -> bool {
         let mut names = self.refusals.iter().filter_map(|r| r.name.as_deref());
@@ -101,12 +106,11 @@ pub fn refusals(said: &str) -> Vec<Refusal> {
 }
 
 impl Refusal {
-    /// The life that the declaration belongs to; none if it belongs to no life.
-    pub fn life(&self) -> Option<u64> {
-        let name = self.name.as_ref()?;
+    /// Whether the declaration belongs to the life with this label.
+    pub fn is_about(&self, label: &str) -> bool {
         let prefixes = ["life", "book", "history", "rest"];
-        let mut numbers = prefixes.iter().filter_map(|p| name.strip_prefix(p));
-        numbers.next()?.parse().ok()
+        let name = self.name.as_deref().unwrap_or_default();
+        prefixes.iter().any(|p| name.strip_prefix(p) == Some(label))
     }
 
     /// What differs, in a few short lines.

@@ -184,31 +184,31 @@ fn with_inputs(field: &str, value: &str, turns: &[Turn]) -> String {
 
 /// The history of the life, under a name; what follows a counter that is set has another.
 pub fn history(fact: &Fact) -> String {
-    let number = fact.number;
+    let label = &fact.label;
     let script = &fact.script;
     let first = with_inputs("start", &text::start(&fact.life.start), &script.first);
-    let mut text = format!("abbrev history{number} : Life\nhistory{number} =\n    {first}\n\n");
+    let mut text = format!("abbrev history{label} : Life\nhistory{label} =\n    {first}\n\n");
     if !script.rest.is_empty() {
         let rest = script.rest.iter();
         let rest = rest.map(|(set, turns)| with_inputs("set", &text::setter(*set), turns));
         let rest = column(rest, 4);
-        text += &format!("abbrev rest{number} : List Segment\nrest{number} =\n    {rest}\n\n");
+        text += &format!("abbrev rest{label} : List Segment\nrest{label} =\n    {rest}\n\n");
     }
     text
 }
 
 /// What the definitions give for the life: its outputs, and the book at a place.
 pub fn computed(fact: &Fact) -> [String; 2] {
-    let number = fact.number;
+    let label = &fact.label;
     if fact.script.rest.is_empty() {
         return [
-            format!("outputs history{number}"),
-            format!("bookAt (phases history{number} [])"),
+            format!("outputs history{label}"),
+            format!("bookAt (phases history{label} [])"),
         ];
     }
     [
-        format!("outputsSet history{number} rest{number}"),
-        format!("bookAt (phases history{number} rest{number})"),
+        format!("outputsSet history{label} rest{label}"),
+        format!("bookAt (phases history{label} rest{label})"),
     ]
 }
 
@@ -223,7 +223,7 @@ fn statements(fact: &Fact) -> String {
         let computed = format!("map ({book}) ({places})");
         let expected = column(fact.books.iter().map(book_term), 4);
         text.push('\n');
-        text += &proved(&format!("book{}", fact.number), &computed, &expected);
+        text += &proved(&format!("book{}", fact.label), &computed, &expected);
     }
     text
 }

@@ -74,8 +74,10 @@ logic=not-proved
 #[test]
 fn what_the_prover_refuses() {
     let all = refusals(SAID);
-    let lives: Vec<Option<u64>> = all.iter().map(|r| r.life()).collect();
-    assert_eq!(lives, [Some(12), Some(30), None]);
+    let about = |label: &str| all.iter().map(|r| r.is_about(label)).collect::<Vec<_>>();
+    assert_eq!(about("12"), [true, false, false]);
+    assert_eq!(about("30"), [false, true, false]);
+    assert_eq!(about("2"), [false; 3]);
     assert_eq!(all[0].lines.len(), 4);
     let gist = all[0].gist();
     assert_eq!(gist.len(), 1);
