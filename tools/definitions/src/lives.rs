@@ -1,10 +1,10 @@
-//! Random lives, each with what is to be proved of it.
+//! Random lives and directed ones, each with what is to be proved of it.
 
 use crate::choose::choose;
 use crate::text;
 use crate::turns::{moments, Event, Moment, Output, Place};
 use crate::vary::vary;
-use crate::weave::{weave, Script};
+use crate::weave::{plain, weave, Script};
 use oracle::driver::Item;
 use oracle::generate::Generator;
 use oracle::life::{Call, Counter, Life};
@@ -28,7 +28,8 @@ const BOOKS_OF_A_LONG_LIFE: usize = 6;
 /// What is to be proved of a life.
 #[derive(Clone, Debug, PartialEq, Eq)]
 pub struct Fact {
-    /// How the names of its declarations end: the number of a random life.
+    /// How the names of its declarations end: the number of a random life, or `-` and the name of
+    /// a directed one.
     pub label: String,
     pub life: Life,
     pub script: Script,
@@ -129,12 +130,32 @@ fn fact(seed: u64, number: u64, calls: u64, may_be_cut: bool) -> Fact {
     let most = if long { BOOKS_OF_A_LONG_LIFE } else { BOOKS };
     Fact {
         label: number.to_string(),
-        outputs: script.outputs().map(|o| text::output(&o)).collect(),
-        books: books(&moments, &script, most, &mut rng),
+        outputs: outputs(&script),
+        books: books(some_places(&moments, &script, most, &mut rng)),
         reached: Reached::by(&moments),
         life,
         script,
     }
+}
+
+/// What is to be proved of a life that was written by hand, with nothing put in: the book is
+/// compared at every place.
+pub fn directed(name: &str, life: Life) -> Fact {
+    let trace = run_life(&life, Options::ALL);
+    let moments = moments(&trace);
+    let script = plain(&moments);
+    Fact {
+        label: format!("-{name}"),
+        outputs: outputs(&script),
+        books: books(places(&moments, &script)),
+        reached: Reached::by(&moments),
+        life,
+        script,
+    }
+}
+
+fn outputs(script: &Script) -> Vec<String> {
+    script.outputs().map(|o| text::output(&o)).collect()
 }
 
 /// Whether the life of this number is one of the long ones.
@@ -142,29 +163,41 @@ pub const fn is_long(number: u64) -> bool {
     number % EVERY == EVERY - 1
 }
 
-/// The books in some waits and at the end.
-fn books(moments: &[Moment<'_>], script: &Script, most: usize, rng: &mut Prng) -> Vec<Seen> {
-    if !oracle::HAS_COUNTERS {
-        return Vec::new();
-    }
+/// Where the life itself stands after each output that is not woven in.
+fn places<'a>(moments: &[Moment<'a>], script: &Script) -> Vec<(usize, Place<'a>)> {
     let turns = script.turns().enumerate().filter(|(_, turn)| !turn.woven);
     let places = std::iter::once(0).chain(turns.map(|(n, _)| n + 1));
     let outputs = moments
         .iter()
         .filter(|m| !matches!(m.event, Event::Set(..)));
+    places.zip(outputs.map(|moment| moment.place)).collect()
+}
+
+/// Some waits, and the end.
+fn some_places<'a>(
+    moments: &[Moment<'a>],
+    script: &Script,
+    most: usize,
+    rng: &mut Prng,
+) -> Vec<(usize, Place<'a>)> {
     let is_wait = |p: &Place<'_>| p.awaited.is_some() && p.readings.is_some();
-    let waits: Vec<(usize, Place<'_>)> = places
-        .zip(outputs.map(|moment| moment.place))
-        .filter(|(_, place)| is_wait(place))
-        .collect();
+    let mut waits = places(moments, script);
+    waits.retain(|(_, place)| is_wait(place));
     let mut picked: Vec<_> = (0..most).filter_map(|_| rng.pick(&waits)).collect();
     picked.sort_by_key(|(place, _)| *place);
     picked.dedup_by_key(|(place, _)| *place);
     let end = moments
         .last()
         .map(|m| (script.outputs().count() - 1, m.place));
-    let all = picked.into_iter().chain(end);
-    all.map(|(place, at)| seen(place, &at)).collect()
+    picked.extend(end);
+    picked
+}
+
+/// The books at these places; none in the build without `counters`.
+fn books(mut places: Vec<(usize, Place<'_>)>) -> Vec<Seen> {
+    places.retain(|_| oracle::HAS_COUNTERS);
+    let books = places.iter();
+    books.map(|(place, at)| seen(*place, at)).collect()
 }
 
 fn seen(place: usize, at: &Place<'_>) -> Seen {

@@ -1,6 +1,7 @@
 //! The program behind `run`: makes the facts, has them computed, and reports.
 
 use definitions::counts::Counts;
+use definitions::directed;
 use definitions::lives::{self, Fact};
 use definitions::narrow::Narrowing;
 use definitions::options::{Options, USAGE};
@@ -38,7 +39,8 @@ fn run(options: &Options) -> io::Result<bool> {
     let root = options.root.canonicalize()?;
     let folder = Folder::new(options)?;
     prover::prove_rules(&root)?;
-    let mut facts = lives::facts(options.seed, options.lives, options.calls);
+    let mut facts = directed::facts(&root)?;
+    facts.extend(lives::facts(options.seed, options.lives, options.calls));
     if options.plant {
         show_planted(plant(&mut facts, options.seed), &facts);
     }

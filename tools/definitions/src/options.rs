@@ -5,7 +5,7 @@ use std::path::PathBuf;
 pub const USAGE: &str = "\
 usage: tools/definitions/run [--seed S] [--lives N] [--calls M] [--keep DIR] [--plant]
   --seed S    which random lives (1)
-  --lives N   how many (300)
+  --lives N   how many of them (300), beside those of tools/definitions/lives
   --calls M   the most calls of a usual life (20); one life in twenty is a long one
   --keep DIR  a new or empty folder for the facts, the lives and what the prover said
   --plant     change one number in one expected output: the run must fail with that life
