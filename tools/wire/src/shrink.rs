@@ -220,9 +220,14 @@ impl Shrinker<'_> {
             let mut from = 0;
             while from < turns.len() {
                 let to = (from + size).min(turns.len());
+                // The next step copies the whole list, which may be long.
+                if !turns[from..to].iter().any(|turn| turn.woven) {
+                    from = to;
+                    continue;
+                }
                 let left = without_woven(&turns, from, to);
                 let kept = to - (turns.len() - left.len());
-                let smaller = left.len() < turns.len() && self.difference(&left).is_some();
+                let smaller = self.difference(&left).is_some();
                 (turns, from) = if smaller { (left, kept) } else { (turns, to) };
             }
             size /= 2;
