@@ -9,8 +9,8 @@ use crate::turn::fits;
 use definitions::turns::{refusal, Reading, Reply};
 use definitions::weave::{OTHER_REPLY_AWAITED, REPLY_AWAITED};
 use oracle::driver::Item;
-use oracle::life::Call;
-use oracle::run::{apply, copy};
+use oracle::life::{Call, Counter};
+use oracle::run::{apply, copy, Options, Readings};
 use oracle::runtime_core::{
     Capability, Driver, DriverError, Observation, Reason, Receipt, Runtime,
 };
@@ -29,6 +29,8 @@ pub enum Flaw {
     KeptList,
     /// The record after a malformed one is left out.
     Skips,
+    /// The count of rejections is held one below its top, in the build with `counters`.
+    HeldLow,
 }
 
 /// Runs whole inputs.
@@ -101,6 +103,19 @@ impl Driver for Feeding<'_> {
 fn until_item<T>(work: impl FnOnce() -> T) -> Result<T, Box<Handed>> {
     catch_unwind(AssertUnwindSafe(work))
         .map_err(|payload| payload.downcast().unwrap_or_else(|p| resume_unwind(p)))
+}
+
+/// Takes one from a count of rejections that is one below its top, before a call counts on.
+fn hold_low(runtime: &mut Runtime) {
+    let readings = Readings::of(runtime, Options::ALL);
+    let low = u16::MAX - 1;
+    if readings.hidden.is_some_and(|h| h.invalid_count == low) {
+        let set = Call::Set {
+            counter: Counter::InvalidCount,
+            value: (low - 1).into(),
+        };
+        apply(runtime, &set, &mut Feeding([].iter()));
+    }
 }
 
 enum Begun {
@@ -215,6 +230,9 @@ impl Running {
             .map(|result| self.started(result, listed)),
             Begun::Call(call, before) => {
                 let mut runtime = Box::new(copy(before));
+                if self.flaw == Flaw::HeldLow {
+                    hold_low(&mut runtime);
+                }
                 let ended = until_item(|| apply(&mut runtime, call, &mut driver));
                 self.runtime = Some(runtime);
                 ended.map(|answer| Output::answer(&answer))

@@ -3,6 +3,7 @@
 mod common;
 
 use common::Replay;
+use oracle::driver::Item;
 use oracle::runtime_core::{Decision, Reason};
 use wire::batch::{Batch, Run};
 use wire::compare::{compare, Failure, Request, Summary, LIVES};
@@ -15,6 +16,7 @@ use wire::odd;
 use wire::play::{play, Plan};
 use wire::report;
 use wire::shrink::{shrink, Shrunk};
+use wire::turn::Turn;
 
 fn request(seed: u64, calls: u64, threads: usize) -> Request {
     Request {
@@ -76,7 +78,7 @@ fn a_wrong_number_is_found_and_shrunk() {
         };
         assert!(plan.life.steps.len() <= 3, "{}", plan.life);
         let demanded = shrunk.demanded.and_then(|words| Output::of(&words));
-        let Some(Output::Item(0, oracle::driver::Item::Record { receipt })) = demanded else {
+        let Some(Output::Item(0, Item::Record { receipt })) = demanded else {
             panic!("{demanded:?}");
         };
         assert_eq!(receipt.decision, Decision::Fallback);
@@ -285,6 +287,63 @@ fn a_silent_engine_ends_the_run_early() {
         3,
         "{text}"
     );
+}
+
+/// The lists that bring the count of rejections to its top.
+fn storms() -> Vec<odd::List> {
+    let mut lists = odd::lists();
+    lists.retain(|(name, _)| name.contains("rejections"));
+    lists
+}
+
+/// The place of the first fallback for a storm.
+fn trip(turns: &[Turn]) -> usize {
+    let trips = |turn: &Turn| match turn.output {
+        Output::Item(0, Item::Fallback { reason, .. }) => reason == Reason::InvalidStorm,
+        _ => false,
+    };
+    turns.iter().position(trips).expect("a trip")
+}
+
+#[test]
+fn a_storm_trips_at_the_largest_limit_and_past_it() {
+    let rejections = |turns: &[Turn]| {
+        let rejected = |turn: &&Turn| match turn.output {
+            Output::Item(0, Item::Record { receipt }) => receipt.decision == Decision::Rejected,
+            _ => false,
+        };
+        turns[..trip(turns)].iter().filter(rejected).count()
+    };
+    let counts: Vec<usize> = storms().iter().map(|(_, t)| rejections(t)).collect();
+    assert_eq!(counts, [65_535, 65_537]);
+}
+
+#[cfg(feature = "counters")]
+#[test]
+fn a_count_of_rejections_that_is_held_low_is_found() {
+    for (name, turns) in storms() {
+        let batch = Batch::of(&turns);
+        let mut machine = Machine(Flaw::HeldLow);
+        let run = Run::of(&mut machine, &batch.input, batch.demanded.len());
+        assert_eq!(
+            run.difference(&batch.demanded),
+            Some(trip(&turns)),
+            "{name}"
+        );
+    }
+}
+
+#[test]
+fn a_difference_at_the_end_of_a_long_list_is_shown() {
+    let list = storms().remove(0);
+    let batch = Batch::of(&list.1);
+    let mut changed = batch.demanded;
+    *changed.last_mut().expect("a byte") ^= 1;
+    let failures = [Failure::Odd(list)];
+    let text = report::failures(&failures, &request(1, 0, 1), &mut Replay(changed));
+    assert!(text.starts_with("FAILED as many rejections"), "{text}");
+    let last = batch.input.len() / INPUT_BYTES - 1;
+    assert!(text.contains(&format!("record {last} differs\n")), "{text}");
 }
 
 #[test]
