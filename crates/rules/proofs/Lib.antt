@@ -33,6 +33,7 @@ pub mod Suits
 pub mod Refused
 pub mod Succeeded
 pub mod Rejected
+pub mod Executed
 pub mod Answered
 pub mod Rising
 pub mod Refusals

@@ -10,9 +10,9 @@ use Rattle.model.specs.declared.Receipt.{Receipt}
 use Rattle.model.specs.declared.Submission.{Submission}
 use Rattle.rules.specs.Book.{Book}
 use Rattle.rules.specs.Interaction.{Submitted}
-use Rattle.rules.specs.Protocol.{Submit, ItemObserve, ItemExecute, ItemRecord, Hands, Answers, Start, Phase, Starting, Gone, Idle, Waiting, waitBook, bookIn, start, react}
+use Rattle.rules.specs.Protocol.{Submit, ItemObserve, ItemExecute, ItemRecord, Hands, Answers, Start, Phase, Starting, Gone, Idle, Waiting, waitBook, bookIn, start}
 use Rattle.rules.specs.Lives.{Life}
-use Rattle.rules.specs.Log.{History, phaseAfter, outputAfter, Event, Handed, Ended, Log, handed, arrived, logged, logOf, executed, dispatching, executedBy, executedIn}
+use Rattle.rules.specs.Log.{History, phaseAfter, outputAfter, Event, Handed, Ended, Log, handed, logOf, executed, dispatching, executedBy, executedIn}
 use Rattle.rules.specs.Lists.{Mem, Distinct}
 use Rattle.rules.specs.Claim.{Carried, Leased, Observing, Recording, BookFacts}
 use Rattle.rules.specs.StopFacts.{Reported}

@@ -46,9 +46,9 @@ record Unmoved (c : Call) (reason : Reason) (before after : Book) (rs : List Rep
   nothing : is ≡ []
 
 -- these axes fell back for this reason
-record Swept (axes : List ℕ) (fell : Reason) (before after : Book) (is : List Item) : Type 0 where
-  capabilities : after .capabilities ≡ before .capabilities
-  each : (axis : ℕ) → Mem axis axes → Mem (ItemFallback axis fell) is
+pub record Swept (axes : List ℕ) (fell : Reason) (before after : Book) (is : List Item) : Type 0 where
+  pub capabilities : after .capabilities ≡ before .capabilities
+  pub each : (axis : ℕ) → Mem axis axes → Mem (ItemFallback axis fell) is
 
 -- the driver failed: every used axis fell back, and the runtime is Faulted
 record Failed (fell reason : Reason) (before after : Book) (rs : List Reply) (is : List Item) : Type 0 where
@@ -136,7 +136,7 @@ swept-more {rest} {reason} {is = is} axis k m = record { capabilities = m .capab
     each a (inl q) = inl (ap (λ (n : ℕ). ItemFallback n reason) q)
     each a (inr n) = inr (inr (m .each a n))
 
-swept-fallbacks : {rs : List Reply} {is : List Item} {b′ : Book} {a′ : Answer} (a : Answer) (on : List ℕ) (reason : Reason) (now : ℕ) (b : Book)
+pub swept-fallbacks : {rs : List Reply} {is : List Item} {b′ : Book} {a′ : Answer} (a : Answer) (on : List ℕ) (reason : Reason) (now : ℕ) (b : Book)
     → Runs (fallbacks on reason now b (λ b. Done b a)) rs is (Done b′ a′) → Swept on reason b b′ is × ((b′ .state ≡ b .state) × (a ≡ a′))
 unfolding fallbacks cleared bumpEpoch withEpoch withLeases withActive kept withNextReceipt withReceipts
 swept-fallbacks a [] reason now b w =

@@ -8,14 +8,12 @@ use mathlib.Core.Path.{_≡_, refl, sym, ap, _∙_, subst}
 use native.Mathlib.Omega.{arith}
 use Rattle.model.specs.declared.Receipt.{Receipt}
 use Rattle.rules.specs.Lists.{Mem}
-use Rattle.rules.specs.Book.{Book}
 use Rattle.rules.specs.Receipts.{top, bump}
 use Rattle.rules.specs.Interaction.{Answer, Returned, Polled, Succeeded, Leased, Refused, Submitted, Interaction, Done, Observe, Execute, Fallback, Record}
 use Rattle.rules.specs.Rules.{usedAxes}
-use Rattle.rules.specs.Protocol.{Call, FellBack, Input, Calls, Replies, Reads, Item, ItemObserve, ItemExecute, ItemFallback, ItemRecord, Output, Started, StartRefused, Hands, Answers, Reminds, Refuses, Shows, NoRuntime, Start, Phase, Starting, Gone, Idle, Waiting, begin, proceed, refusedStart, startFrom, startUnless, start, startReplied, called, replied, effect, apply, react}
+use Rattle.rules.specs.Protocol.{FellBack, Input, Calls, Replies, Reads, ItemObserve, ItemExecute, ItemFallback, ItemRecord, Output, Started, StartRefused, Hands, Answers, Reminds, Refuses, Shows, NoRuntime, Start, Phase, Starting, Gone, Idle, Waiting, begin, proceed, refusedStart, startFrom, startUnless, start, startReplied, called, replied, effect, apply, react}
 use Rattle.rules.specs.Log.{History, phaseAfter, outputAfter, Event, Took, Replied, Handed, Ended, Log, handed, tookEffect, arrived, logged, logOf, Exchange, withReply, withItem, current, counted, nextNumber}
-use Rattle.rules.specs.Claim.{Recording}
-use Rattle.rules.specs.AnswerFacts.{answeredReceipts, Falling, OrderAnswered}
+use Rattle.rules.specs.AnswerFacts.{answeredReceipts, Falling}
 use Rattle.rules.proofs.Counters.{bump-up, bump-below}
 use Rattle.rules.proofs.Steps.{Stands, atObserve, atExecute, atFallback, atRecord, eventAt, handed-event, effective, start-effective, Step, stays, tries, begins, answers, step}
 use Rattle.rules.proofs.StartRefusals.{stays-silent}

@@ -1,16 +1,15 @@
 -- Which refusal a start meets, and that nothing comes of it; and that an input which is turned away alters nothing. Assumes nothing.
 use Prim.Native.Nat.{ℕ}
-use mathlib.Core.Bool.{Bool, true, false, cond, _&&_, false≢true, true≢false}
+use mathlib.Core.Bool.{Bool, true, false, cond, _&&_, true≢false}
 use mathlib.Core.List.{List, [], _∷_, _++_, append-nil, cons≢nil}
 use mathlib.Core.Logic.{_≢_, _↔_, ⊎-elim}
 use mathlib.Core.Option.{Option, some, none, Option·some-ne-none}
 use mathlib.Core.Path.{_≡_, refl, sym, ap, _∙_, subst}
-use native.Mathlib.Omega.{arith}
 use Rattle.rules.specs.Lists.{Mem}
 use Rattle.rules.specs.Book.{Book}
 use Rattle.rules.specs.Interaction.{Interaction, Done, Observe, Execute, Fallback, Record}
 use Rattle.rules.specs.Rules.{usedAxes}
-use Rattle.rules.specs.Protocol.{Call, Reply, FellBack, Reading, Input, Calls, Replies, Reads, Output, StartRefused, Started, Hands, Answers, Reminds, Refuses, Shows, NoRuntime, Start, Phase, Starting, Gone, Idle, Waiting, bookIn, begin, proceed, refusedStart, startFrom, startUnless, start, startReplied, called, replied, shown, effect, apply, react}
+use Rattle.rules.specs.Protocol.{Call, Reply, FellBack, Reading, Input, Calls, Replies, Reads, Output, StartRefused, Started, Hands, Answers, Reminds, Refuses, Shows, NoRuntime, Start, Phase, Gone, bookIn, begin, proceed, refusedStart, startFrom, startUnless, start, startReplied, called, replied, shown, effect, apply, react}
 use Rattle.rules.specs.Log.{History, phaseAfter, outputAfter, Event, Took, Replied, Log, handed, tookEffect, arrived, logged, logOf, bookBefore, callOf, startReplies}
 use Rattle.rules.specs.SoundStart.{SoundStart, StartFails}
 use Rattle.rules.specs.Turns.{awaited}

@@ -17,7 +17,7 @@ use Rattle.model.specs.declared.Reason.the-variants.{Startup}
 use Rattle.model.specs.Soundness.{axisUsed}
 use Rattle.model.specs.Words.{shareNoBit}
 use Rattle.rules.specs.Lists.{Mem}
-use Rattle.rules.specs.Book.{Book, leaseAt, activeAt}
+use Rattle.rules.specs.Book.{Book}
 use Rattle.rules.specs.Interaction.{Answer, Interaction, Done, Observe, Execute, Fallback, Record}
 use Rattle.rules.specs.Admission.{axes}
 use Rattle.rules.specs.Rules.{select, usedAxes, meetsEstop}

@@ -9,6 +9,7 @@ use Rattle.rules.specs.Log.{History}
 use Rattle.rules.specs.Protocol.{Start}
 use Rattle.rules.proofs.Answered
 use Rattle.rules.proofs.Exactly
+use Rattle.rules.proofs.Executed
 use Rattle.rules.proofs.InHand
 use Rattle.rules.proofs.Once
 use Rattle.rules.proofs.Refusals.{refusals}
@@ -23,6 +24,8 @@ answer-facts s h =
     record {
       kind = Answered.kind-answered s h;
       order = Answered.order-answered s h;
+      executed = λ x b r out e f. Executed.executed-exactly s h x b r out e f;
+      failed = λ x b r out e f. Executed.failed-so s h x b r out e f;
       lease = Answered.lease-answered s h;
       rising = Rising.rising s h;
     }

@@ -1,6 +1,6 @@
 -- Who is heard: `Turns` of every history. Assumes nothing.
 use Prim.Native.Nat.{ℕ}
-use mathlib.Core.Bool.{Bool, true, false, _&&_, false≢true, true≢false}
+use mathlib.Core.Bool.{Bool, true, false, _&&_, false≢true}
 use mathlib.Core.List.{List, [], _∷_, _++_, append-nil}
 use mathlib.Core.Logic.{inl, inr}
 use mathlib.Core.Option.{Option, some, none, Option·none-ne-some, Option·some-ne-none, Option·some-injective}
@@ -10,8 +10,8 @@ use Rattle.rules.specs.Book.{Book}
 use Rattle.rules.specs.Interaction.{Interaction, Done, Observe, Execute, Fallback, Record}
 use Rattle.rules.specs.Admission.{isSome}
 use Rattle.rules.specs.Rules.{usedAxes}
-use Rattle.rules.specs.Protocol.{Call, Reply, Observed, Executed, FellBack, Recorded, Reading, Input, Calls, Replies, Reads, Item, ItemObserve, ItemExecute, ItemFallback, ItemRecord, Output, Started, StartRefused, Hands, Answers, Reminds, Refuses, Shows, NoRuntime, Start, Wait, OnObserve, OnExecute, OnFallback, OnRecord, Phase, Starting, Gone, Idle, Waiting, itemOf, waitBook, bookIn, resume, resumed, begin, proceed, refusedStart, startFrom, startUnless, start, startReplied, called, replied, read, shown, effect, apply, react}
-use Rattle.rules.specs.Log.{History, phaseAfter, outputAfter, Event, Took, Replied, Handed, Ended, Log, logOf, handed, arrived, logged, tookEffect, callOf}
+use Rattle.rules.specs.Protocol.{Call, Reply, Observed, Executed, FellBack, Recorded, Reading, Input, Calls, Replies, Reads, Item, ItemFallback, Output, Started, StartRefused, Hands, Answers, Reminds, Refuses, Shows, NoRuntime, Start, Wait, OnObserve, OnExecute, OnFallback, OnRecord, Phase, Starting, Gone, Idle, Waiting, itemOf, bookIn, resume, resumed, begin, proceed, refusedStart, startFrom, startUnless, start, startReplied, called, replied, shown, effect, apply, react}
+use Rattle.rules.specs.Log.{History, phaseAfter, outputAfter, Event, Took, Replied, Log, logOf, handed, arrived, logged, tookEffect, callOf}
 use Rattle.rules.specs.Turns.{awaited, fits, Proceeds, Turns}
 use Rattle.rules.proofs.Steps.{eventAt, handed-event, effective, start-effective, Step, stays, tries, begins, answers, step}
 

@@ -1,26 +1,35 @@
 -- What an answer says is what was handed out: each call has its own kind of answer; an order is answered with its receipt, a grant or a
 -- renewal with the lease that stands.
 use Prim.Native.Nat.{ℕ, _+_, _<_}
-use mathlib.Core.Bool.{Bool}
+use mathlib.Core.Bool.{Bool, true}
 use mathlib.Core.List.{List, [], _∷_}
-use mathlib.Core.Logic.{_⊎_, _≢_}
+use mathlib.Core.Logic.{_⊎_, _≢_, _↔_}
 use mathlib.Core.Option.{some, none}
 use mathlib.Core.Path.{_≡_}
+use lib.Bits.{bitAnd}
+use lib.IntN.{ℤ}
+use Rattle.model.specs.declared.Capability.{Capability}
 use Rattle.model.specs.declared.Decision.the-variants as Decision
 use Rattle.model.specs.declared.Lease.{Lease}
 use Rattle.model.specs.declared.LeaseRequest.{LeaseRequest}
+use Rattle.model.specs.declared.Observation.{Observation}
 use Rattle.model.specs.declared.Reason.{Reason}
 use Rattle.model.specs.declared.Reason.the-variants as Reason
 use Rattle.model.specs.declared.Receipt.{Receipt}
 use Rattle.model.specs.declared.Renewal.{Renewal}
+use Rattle.model.specs.declared.RuntimeState.the-variants as State
 use Rattle.model.specs.declared.Submission.{Submission}
+use Rattle.model.specs.declared.Verification.{Verification}
+use Rattle.model.specs.declared.Verification.the-variants.{Parameters, State as StateIs}
 use Rattle.rules.specs.Lists.{Mem}
 use Rattle.rules.specs.Book.{Book, leaseAt}
 use Rattle.rules.specs.Receipts.{top}
 use Rattle.rules.specs.Interaction.{Answer, Returned, Polled, Succeeded, Leased, Refused, Submitted}
 use Rattle.rules.specs.Admission.{firstFailing, acquireChecks, renewChecks}
-use Rattle.rules.specs.Protocol.{Call, Tick, UpdateState, EmergencyStop, PollEstop, RecoverLocal, Acquire, Renew, Cancel, Submit, ItemObserve, ItemRecord, Answers, Start, Idle}
+use Rattle.rules.specs.Rules.{usedAxes}
+use Rattle.rules.specs.Protocol.{Call, Tick, UpdateState, EmergencyStop, PollEstop, RecoverLocal, Acquire, Renew, Cancel, Submit, Observed, Executed, Recorded, ItemObserve, ItemFallback, ItemRecord, Answers, Start, Idle}
 use Rattle.rules.specs.Log.{History, phaseAfter, outputAfter, Took, Replied, Handed, Ended, Log, logOf, bookBefore, Exchange, current, nextNumber}
+use Rattle.rules.specs.SoundStart.{Named}
 use Rattle.rules.specs.Way.{Ticked}
 
 -- the receipts with which submissions ended, newest first
@@ -77,6 +86,36 @@ pub record OrderAnswered (x : Exchange) (r : Receipt) : Type 0 where
   pub handed : Mem (ItemRecord r) (x .items)
   pub admitted : (((axis : ℕ) × Mem (ItemObserve axis) (x .items)) × (r .decision ≢ Decision.Rejected)) ⊎ (r .decision ≡ Decision.Rejected)
 
+-- the observation equals the parameters, or its state has the value under the mask
+abbrev pub Verified : Verification → List ℤ → Observation → Type 0
+Verified Parameters ps seen = seen .parameters ≡ ps
+Verified (StateIs mask value) ps seen = bitAnd (seen .state) mask ≡ value
+
+-- 01: "observe, execute, observe, verify. Executed needs all four."
+pub record AllFour (x : Exchange) (before : Book) : Type 0 where
+  pub order : Submission
+  pub call : x .call ≡ Submit order
+  pub book : Book
+  pub ticked : Ticked (order .now) before x book
+  pub capability : Capability
+  pub known : Named (order .action .capability) (book .capabilities) capability
+  pub first : Observation
+  pub second : Observation
+  pub replies : ticked .later ≡ Observed (some first) ∷ Executed true ∷ Observed (some second) ∷ Recorded ∷ []
+  pub verified : Verified (capability .verification) (order .action .parameters) second
+
+-- 01: "Otherwise Failed (16 or 17), receipt, trip."
+pub record FailedSo (s : Start) (h : History) (x : Exchange) (before : Book) (r : Receipt) : Type 0 where
+  pub order : Submission
+  pub call : x .call ≡ Submit order
+  pub ticked-book : Book
+  pub ticked : Ticked (order .now) before x ticked-book
+  pub reason : (r .reason ≡ Reason.Driver) ⊎ (r .reason ≡ Reason.Verification)
+  pub fell-back : (axis : ℕ) → Mem axis (usedAxes (s .capabilities)) → Mem (ItemFallback axis (r .reason)) (ticked .laterItems)
+  pub book : Book
+  pub left : phaseAfter s h ≡ Idle book
+  pub state : book .state ≡ State.Faulted
+
 -- the lease is what the call asked for, every check of it holds in the book that its tick left, and its receipt says which of the two it was
 pub data Asked : Call → ℕ → Book → Receipt → Lease → Type 0 where
   granted : {q : LeaseRequest} {now : ℕ} {b : Book} {r : Receipt} {l : Lease} → firstFailing (acquireChecks q now b) ≡ none
@@ -108,6 +147,10 @@ pub record LeaseAnswered (s : Start) (h : History) (x : Exchange) (before : Book
 pub record AnswerFacts (s : Start) (h : History) : Type 0 where
   pub kind : (x : Exchange) (a : Answer) → outputAfter s h ≡ Answers a → current (logOf s h) ≡ some x → AnswersTo (x .call) a
   pub order : (x : Exchange) (r : Receipt) → outputAfter s h ≡ Answers (Submitted r) → current (logOf s h) ≡ some x → OrderAnswered x r
+  pub executed : (x : Exchange) (b : Book) (r : Receipt) → outputAfter s h ≡ Answers (Submitted r) → current (logOf s h) ≡ some x
+      → bookBefore s h ≡ some b → (r .decision ≡ Decision.Executed) ↔ AllFour x b
+  pub failed : (x : Exchange) (b : Book) (r : Receipt) → outputAfter s h ≡ Answers (Submitted r) → current (logOf s h) ≡ some x
+      → bookBefore s h ≡ some b → r .decision ≡ Decision.Failed → FailedSo s h x b r
   pub lease : (x : Exchange) (b : Book) (l : Lease) → outputAfter s h ≡ Answers (Leased l) → current (logOf s h) ≡ some x
       → bookBefore s h ≡ some b → LeaseAnswered s h x b l
   -- the numbers of the orders' receipts rise from answer to answer, below the top of 64 bits

@@ -2,10 +2,10 @@
 -- A cut needs no case of its own: a life that is cut is one whose inputs end while a reply is awaited, and every part speaks of every
 -- history. The parts that quantify over every start and history say more than one about the lives in hand would.
 use Prim.Native.Nat.{ℕ, _+_, _<_, _≤_, _^_, min}
-use mathlib.Core.Bool.{Bool, true, false}
+use mathlib.Core.Bool.{true, false}
 use mathlib.Core.List.{List, [], _∷_, _++_, map}
 use mathlib.Core.Logic.{_⊎_, _≢_, _↔_}
-use mathlib.Core.Option.{Option, some, none}
+use mathlib.Core.Option.{some, none}
 use mathlib.Core.Path.{_≡_}
 use lib.Bits.{bitAnd}
 use lib.IntN.{ℤ}
@@ -13,7 +13,6 @@ use lib.ListN.{take, getElem?}
 use Rattle.model.specs.declared.Capability.{Capability}
 use Rattle.model.specs.declared.Lease.{Lease}
 use Rattle.model.specs.declared.Observation.{Observation}
-use Rattle.model.specs.declared.Reason.{Reason}
 use Rattle.model.specs.declared.Reason.the-variants.{Startup}
 use Rattle.model.specs.declared.Receipt.{Receipt}
 use Rattle.model.specs.declared.Replay.{Replay}
@@ -21,11 +20,10 @@ use Rattle.model.specs.declared.RuntimeState.the-variants as State
 use Rattle.model.specs.declared.Submission.{Submission}
 use Rattle.rules.specs.Book.{Book, leaseAt, activeAt}
 use Rattle.rules.specs.Receipts.{top}
-use Rattle.rules.specs.Interaction.{Returned, Interaction, Done, Observe, Execute, Fallback, Record}
 use Rattle.rules.specs.Lists.{Mem, Distinct}
 use Rattle.rules.specs.Admissible.{Admissible}
-use Rattle.rules.specs.Rules.{usedAxes, tick, replayCapacity}
-use Rattle.rules.specs.Protocol.{Submit, Reply, Observed, Executed, FellBack, Recorded, Item, ItemObserve, ItemExecute, ItemFallback, ItemRecord, Hands, Start, Idle, bookIn}
+use Rattle.rules.specs.Rules.{usedAxes, replayCapacity}
+use Rattle.rules.specs.Protocol.{Submit, Reply, Observed, FellBack, ItemObserve, ItemExecute, ItemFallback, ItemRecord, Hands, Start, Idle, bookIn}
 use Rattle.rules.specs.Lives.{Life}
 use Rattle.rules.specs.Log.{History, phaseAfter, outputAfter, Log, Handed, logOf, bookBefore, callOf, Exchange, current, startItems, startReplies, executedIn, nextNumber, receiptsKept, observing, Admitted, admissions, entryOf, highest, isGrant, Tenancy, live}
 use Rattle.rules.specs.Epoch.{seenRaise, flagsOf, bumps}

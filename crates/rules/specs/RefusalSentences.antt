@@ -9,12 +9,9 @@ use mathlib.Core.Path.{_≡_, refl, sym, ap, _∙_, subst}
 use lib.ListN.{length, take}
 use Rattle.model.specs.declared.Capability.{Capability}
 use Rattle.model.specs.declared.Decision.the-variants as Decision
-use Rattle.model.specs.declared.LeaseRequest.{LeaseRequest}
 use Rattle.model.specs.declared.Reason.{Reason}
 use Rattle.model.specs.declared.Reason.the-variants as Reason
 use Rattle.model.specs.declared.Receipt.{Receipt}
-use Rattle.model.specs.declared.Renewal.{Renewal}
-use Rattle.model.specs.declared.RuntimeState.{RuntimeState}
 use Rattle.model.specs.declared.RuntimeState.the-variants as State
 use Rattle.model.specs.declared.Submission.{Submission}
 use Rattle.rules.specs.Lists.{Mem}
@@ -28,7 +25,7 @@ use Rattle.rules.specs.SoundStart.{SoundCapability, idsOf, Misconfigured
 use Rattle.rules.specs.SoundStart as Plain
 use Rattle.rules.specs.Turns.{awaited}
 use Rattle.rules.specs.Way.{Runs, Ticked}
-use Rattle.rules.specs.Refusals.{StartRefusals, Unaltered, Refusable, Refusable.acquire as at-acquire, Refusable.renew as at-renew, Refusable.cancel as at-cancel, Refusable.recover as at-recover, Refusing, Driven, Succeeding, Rejected, Counted, Storms, Stormed, Calm, Refusals}
+use Rattle.rules.specs.Refusals.{StartRefusals, Refusable, Refusable.acquire as at-acquire, Refusable.renew as at-renew, Refusable.cancel as at-cancel, Refusable.recover as at-recover, Refusing, Driven, Succeeding, Rejected, Counted, Storms, Stormed, Calm, Refusals}
 
 -- a refused start ------------------------------------------------------------------------------------------------------
 

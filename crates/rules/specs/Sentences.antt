@@ -1,10 +1,10 @@
 -- The customer's sentences (00, demand 3), and 01's that belong to them, each from the claim alone: nothing is used here but the claim and the
 -- definitions that it names, so that no part of it can be weakened unnoticed.
 use Prim.Native.Nat.{ℕ, _+_, _<_, _≤_, _^_, min}
-use mathlib.Core.Bool.{Bool, true, false, cond, false≢true}
+use mathlib.Core.Bool.{true, false, false≢true}
 use mathlib.Core.List.{List, [], _∷_, _++_, map}
 use mathlib.Core.Logic.{_⊎_, inl, inr, _≢_, _↔_}
-use mathlib.Core.Option.{Option, some, none, Option·none-ne-some, Option·some-injective}
+use mathlib.Core.Option.{Option, some, none}
 use mathlib.Core.Path.{_≡_, refl, sym, ap, _∙_, subst}
 use native.Mathlib.Omega.{arith}
 use lib.Bits.{bitAnd}
@@ -18,6 +18,7 @@ use Rattle.model.specs.declared.Observation.{Observation}
 use Rattle.model.specs.declared.Reason.the-variants as Reason
 use Rattle.model.specs.declared.Receipt.{Receipt}
 use Rattle.model.specs.declared.Replay.{Replay}
+use Rattle.model.specs.declared.RuntimeState.the-variants as State
 use Rattle.model.specs.declared.Submission.{Submission}
 use Rattle.rules.specs.Lists.{Mem, Distinct}
 use Rattle.rules.specs.Book.{Book, leaseAt}
@@ -25,13 +26,13 @@ use Rattle.rules.specs.Receipts.{top}
 use Rattle.rules.specs.Interaction.{Answer, Leased, Submitted}
 use Rattle.rules.specs.Admissible.{Admissible}
 use Rattle.rules.specs.Rules.{usedAxes, replayCapacity}
-use Rattle.rules.specs.Protocol.{Call, Submit, Reply, Observed, FellBack, Reading, Calls, Replies, Reads, Item, ItemObserve, ItemExecute, ItemFallback, ItemRecord, Output, Started, StartRefused, Hands, Answers, Reminds, Refuses, Shows, NoRuntime, Start, Idle, bookIn, opening, read, react}
+use Rattle.rules.specs.Protocol.{Call, Submit, Reply, Observed, Executed, Recorded, FellBack, Reading, Calls, Replies, Reads, Item, ItemObserve, ItemExecute, ItemFallback, ItemRecord, Output, Started, StartRefused, Hands, Answers, Reminds, Refuses, Shows, NoRuntime, Start, Idle, bookIn, read}
 use Rattle.rules.specs.Lives.{Life}
 use Rattle.rules.specs.Log.{History, phaseAfter, outputAfter, Took, Replied, Handed, Ended, Log, handed, tookEffect, arrived, logged, logOf, opened, bookBefore, callOf, Exchange, withReply, withItem, current, startItems, startReplies, executedIn, nextNumber, receiptsKept, observing, Admitted, admissions, entryOf, highest, isGrant, Tenancy, live}
 use Rattle.rules.specs.Epoch.{seenRaise, flagsOf, bumps}
 use Rattle.rules.specs.SoundStart.{Named, SoundStart}
 use Rattle.rules.specs.Turns.{awaited, fits, Proceeds}
-use Rattle.rules.specs.AnswerFacts.{answeredReceipts, Falling, AnswersTo, OfOrder, Asked}
+use Rattle.rules.specs.AnswerFacts.{answeredReceipts, Falling, AnswersTo, OfOrder, Verified, AllFour, Asked}
 use Rattle.rules.specs.Way.{Ticked}
 use Rattle.rules.specs.Claim.{Between, nameOf, OpensSo, AreUsed, Claim}
 use Rattle.rules.specs.Claim as Claimed
@@ -423,6 +424,41 @@ module _ (lives : List Life) (claim : Claim lives) where
       → (o : Submission) × (x .call ≡ Submit o) × OfOrder o r × Mem (ItemRecord r) (x .items)
       × ((((axis : ℕ) × Mem (ItemObserve axis) (x .items)) × (r .decision ≢ Decision.Rejected)) ⊎ (r .decision ≡ Decision.Rejected))
   order-told s h x r e q = let k = claim .answers s h .order x r e q in (k .order, k .call, k .own, k .handed, k .admitted)
+
+  -- 01: "observe, execute, observe, verify. Executed needs all four."
+  pub executed-needs-all-four : (s : Start) (h : History) (x : Exchange) (b : Book) (r : Receipt) → outputAfter s h ≡ Answers (Submitted r)
+      → current (logOf s h) ≡ some x → bookBefore s h ≡ some b → r .decision ≡ Decision.Executed
+      → (o : Submission) × (x .call ≡ Submit o) × (ticked : Book) × (t : Ticked (o .now) b x ticked)
+      × (c : Capability) × Named (o .action .capability) (ticked .capabilities) c × (first : Observation) × (second : Observation)
+      × (t .later ≡ Observed (some first) ∷ Executed true ∷ Observed (some second) ∷ Recorded ∷ [])
+      × Verified (c .verification) (o .action .parameters) second
+  executed-needs-all-four s h x b r e q f d =
+      let k = claim .answers s h .executed x b r e q f .0 d in
+      (k .order, k .call, k .book, k .ticked, k .capability, k .known, k .first, k .second, k .replies, k .verified)
+
+  -- 01: "Otherwise Failed (16 or 17), receipt, trip."
+  pub otherwise-failed : (s : Start) (h : History) (x : Exchange) (b : Book) (r : Receipt) → outputAfter s h ≡ Answers (Submitted r)
+      → current (logOf s h) ≡ some x → bookBefore s h ≡ some b → r .decision ≢ Decision.Rejected → (AllFour x b → ⊥)
+      → (r .decision ≡ Decision.Failed) × ((r .reason ≡ Reason.Driver) ⊎ (r .reason ≡ Reason.Verification))
+      × Mem (ItemRecord r) (x .items)
+      × (o : Submission) × (x .call ≡ Submit o) × (ticked : Book) × (t : Ticked (o .now) b x ticked)
+      × ((axis : ℕ) → Mem axis (usedAxes (s .capabilities)) → Mem (ItemFallback axis (r .reason)) (t .laterItems))
+      × (after : Book) × (phaseAfter s h ≡ Idle after) × (after .state ≡ State.Faulted)
+  otherwise-failed s h x b r e q f not-rejected not-all =
+      let a = claim .answers s h in
+      let told = a .order x r e q in
+      let failed : r .decision ≡ Decision.Failed = elim (told .own .decision) [
+        | inl d ↦ absurd (not-all (a .executed x b r e q f .0 d))
+        | inr (inl d) ↦ absurd (not-rejected d)
+        | inr (inr d) ↦ d
+      ] in
+      let k = a .failed x b r e q f failed in
+      (failed, k .reason, told .handed, k .order, k .call, k .ticked-book, k .ticked, k .fell-back, k .book, k .left, k .state)
+
+  -- and where all four succeed it is Executed
+  pub all-four-executed : (s : Start) (h : History) (x : Exchange) (b : Book) (r : Receipt) → outputAfter s h ≡ Answers (Submitted r)
+      → current (logOf s h) ≡ some x → bookBefore s h ≡ some b → AllFour x b → r .decision ≡ Decision.Executed
+  all-four-executed s h x b r e q f four = claim .answers s h .executed x b r e q f .1 four
 
   -- proofs.rs, `receipts_never_wrap_or_lose_order`: of two answers to orders the later has the greater number, below the top of u64
   pub answers-rise : (s : Start) (h : History) → nextNumber (logOf s h) < top

@@ -1,7 +1,7 @@
 -- The Rust's five harnesses (proofs.rs) and what 01 says of the state, each from `StateFacts` or `StopFacts` alone: nothing is used here but
 -- those two records and the definitions that they name.
 use Prim.Native.Nat.{ℕ, _+_, _-_, _<_, _≤_}
-use mathlib.Core.Bool.{Bool, true, false}
+use mathlib.Core.Bool.{true, false}
 use mathlib.Core.List.{List, [], _∷_, _++_}
 use mathlib.Core.Logic.{_⊎_, inl, inr, _≢_}
 use mathlib.Core.Option.{Option, some, none, Option·some-ne-none, Option·some-injective}
@@ -15,7 +15,6 @@ use Rattle.model.specs.declared.Lease.{Lease}
 use Rattle.model.specs.declared.Reason.{Reason}
 use Rattle.model.specs.declared.Reason.the-variants as Reason
 use Rattle.model.specs.declared.Receipt.{Receipt}
-use Rattle.model.specs.declared.RuntimeState.{RuntimeState}
 use Rattle.model.specs.declared.RuntimeState.the-variants as State
 use Rattle.model.specs.declared.Submission.{Submission}
 use Rattle.model.specs.Soundness.{axisUsed}
@@ -30,7 +29,7 @@ use Rattle.rules.specs.Lives.{outputsFrom, phaseFrom}
 use Rattle.rules.specs.Log.{History, phaseAfter, outputAfter, logOf, bookBefore, callOf, Exchange, current, dispatching}
 use Rattle.rules.specs.Way.{Runs}
 use Rattle.rules.specs.StateFacts.{NoLease, Revoked, MakesRoom, StateFacts}
-use Rattle.rules.specs.StopFacts.{Unready, InEstop, Halted, Throughout, Unlifted, Stopped, Blocked, Unrecovered, StillBlocked, StopFacts}
+use Rattle.rules.specs.StopFacts.{Unready, InEstop, Halted, Throughout, Unlifted, Stopped, Blocked, Unrecovered, StopFacts}
 
 -- the state --------------------------------------------------------------------------------------------------------------
 
