@@ -65,7 +65,7 @@ unfolding holdsOf
 held-of none test e = absurd (false≢true e)
 held-of (some a) test e = (a, refl)
 
-held-at : {A : Type 0} {o : Option A} {a : A} (test : A → Bool) → o ≡ some a → holdsOf o test ≡ true → test a ≡ true
+pub held-at : {A : Type 0} {o : Option A} {a : A} (test : A → Bool) → o ≡ some a → holdsOf o test ≡ true → test a ≡ true
 unfolding holdsOf
 held-at test e h = rw e at h
 
@@ -73,41 +73,41 @@ at-held : {A : Type 0} {o : Option A} {a : A} (test : A → Bool) → o ≡ some
 unfolding holdsOf
 at-held test e h = rw e h
 
-not-estopped : (x : RuntimeState) → not (isEstopped x) ≡ true → x ≢ State.Estopped
+pub not-estopped : (x : RuntimeState) → not (isEstopped x) ≡ true → x ≢ State.Estopped
 unfolding isEstopped
 not-estopped x h e = absurd (false≢true (rw e at h))
 
-estopped-not : (x : RuntimeState) → x ≢ State.Estopped → not (isEstopped x) ≡ true
+pub estopped-not : (x : RuntimeState) → x ≢ State.Estopped → not (isEstopped x) ≡ true
 unfolding isEstopped
 estopped-not State.SafeIdle h = refl
 estopped-not State.Armed h = refl
 estopped-not State.Faulted h = refl
 estopped-not State.Estopped h = absurd (h refl)
 
-not-faulted : (x : RuntimeState) → not (isFaulted x) ≡ true → x ≢ State.Faulted
+pub not-faulted : (x : RuntimeState) → not (isFaulted x) ≡ true → x ≢ State.Faulted
 unfolding isFaulted
 not-faulted x h e = absurd (false≢true (rw e at h))
 
-faulted-not : (x : RuntimeState) → x ≢ State.Faulted → not (isFaulted x) ≡ true
+pub faulted-not : (x : RuntimeState) → x ≢ State.Faulted → not (isFaulted x) ≡ true
 unfolding isFaulted
 faulted-not State.SafeIdle h = refl
 faulted-not State.Armed h = refl
 faulted-not State.Faulted h = absurd (h refl)
 faulted-not State.Estopped h = refl
 
-nonzero : (n : ℕ) → not (eqb n 0) ≡ true → n ≢ 0
+pub nonzero : (n : ℕ) → not (eqb n 0) ≡ true → n ≢ 0
 nonzero n h = eqb-false n 0 (not-true _ h)
 
-zero-not : (n : ℕ) → n ≢ 0 → not (eqb n 0) ≡ true
+pub zero-not : (n : ℕ) → n ≢ 0 → not (eqb n 0) ≡ true
 zero-not n h = ap not (ne-eqb n 0 h)
 
-duration-fits : (d limit : ℕ) → not (badDuration d limit) ≡ true → (d ≢ 0) × (d ≤ limit)
+pub duration-fits : (d limit : ℕ) → not (badDuration d limit) ≡ true → (d ≢ 0) × (d ≤ limit)
 unfolding badDuration
 duration-fits d limit h =
     let k = neither (eqb d 0) (ltb limit d) (not-true _ h) in
     (eqb-false d 0 (k .0), ltb-false limit d (k .1))
 
-fits-duration : (d limit : ℕ) → d ≢ 0 → d ≤ limit → not (badDuration d limit) ≡ true
+pub fits-duration : (d limit : ℕ) → d ≢ 0 → d ≤ limit → not (badDuration d limit) ≡ true
 unfolding badDuration
 fits-duration d limit h k = rw (ne-eqb d 0 h, le-ltb limit d k)
 

@@ -2,7 +2,7 @@
 -- what was asked for, and stands. Assumes nothing.
 use Prim.Native.Nat.{ℕ, zero, suc, _<_}
 use mathlib.Core.Bool.{true, false≢true}
-use mathlib.Core.List.{List, [], _∷_}
+use mathlib.Core.List.{List, [], _∷_, _++_}
 use mathlib.Core.Option.{Option, some, none, Option·none-ne-some, Option·some-injective}
 use mathlib.Core.Path.{_≡_, refl, sym, ap, _∙_, subst}
 use native.Mathlib.Omega.{arith}
@@ -20,21 +20,23 @@ use Rattle.model.proofs.Tests.{and-both}
 use Rattle.rules.specs.Book.{Book, leaseAt}
 use Rattle.rules.specs.With.{withLeases, withReceipts, withNextReceipt, withNextLease, withEpoch, withState}
 use Rattle.rules.specs.Receipts.{kept, numbered, event}
-use Rattle.rules.specs.Interaction.{Answer, Leased, Submitted, Interaction, Done}
+use Rattle.rules.specs.Interaction.{Answer, Returned, Leased, Submitted, Interaction, Done}
 use Rattle.rules.specs.Admission.{firstFailing, ready, validRequest, acquireChecks, axes, heldAxis, leaseOn, heldLease, renewChecks}
 use Rattle.rules.specs.Lists.{Mem}
 use Rattle.rules.specs.Rules.{bumpEpoch, recordReceipt, refreshState, tick, newLease, granted, leased, grant, acquire, extended, extend, renewed, renew}
 use Rattle.rules.specs.Protocol.{Call, Acquire, Renew, Reply, Item, ItemRecord, Answers, Start, bookIn, begin}
 use Rattle.rules.specs.Log.{History, phaseAfter, outputAfter, logOf, bookBefore, Exchange, current}
-use Rattle.rules.specs.Way.{recorded, Runs, then}
+use Rattle.rules.specs.Way.{recorded, Runs, then, Ticked}
+use Rattle.rules.specs.Grantable.{Grantable}
 use Rattle.rules.specs.AnswerFacts.{AnswersTo, acquires, renews, OfOrder, OrderAnswered, Asked, Asked.granted as asked-grant, Asked.renewed as asked-renewal, LeaseAnswered}
 use Rattle.rules.proofs.Admission.{none-fails}
 use Rattle.rules.proofs.Checks.{held}
+use Rattle.rules.proofs.Grantable.{grantable, grantable-checked, renewable}
 use Rattle.rules.proofs.Axes.{used-low}
 use Rattle.rules.proofs.Trees.{over, at-end}
 use Rattle.rules.proofs.InHand.{begun}
 use Rattle.rules.proofs.Once.{holds}
-use Rattle.rules.proofs.Ends.{EndedAt, ended, Opened, opens, ticked-by}
+use Rattle.rules.proofs.Ends.{EndedAt, ended, Opened, opens, resumes, ticked-by}
 use Rattle.rules.proofs.Suits.{submission, Settled, told, suits}
 
 -- ---- the kind, and an order
@@ -141,7 +143,7 @@ module _ (after : Book) (eight : length (after .leases) ≡ 8) (low : (axis : �
       let inside = low (q .resource) (rw (k .capabilities) used) in
       let length-same = sym (length-set (b .leases) (q .resource) (some l)) ∙ ap length (sym (k .leases)) ∙ eight in
       subst (λ l. Given (Acquire q now) now b l after is) (g .0)
-      (given k (asked-grant e (k .why) (k .on) refl refl refl refl refl refl refl refl)
+      (given k (asked-grant (grantable q now b e) (k .why) (k .on) refl refl refl refl refl refl refl refl)
       (getD-set-same (b .leases) (q .resource) (some l) none (rw length-same inside)))
 
 -- ---- renew
@@ -157,7 +159,7 @@ given-extension {is = is} {after = after} (some axis) (some x) q b checks e f w 
     let k = g .1 in
     let h = held (q .owner) (q .«lease_id») b axes axis e in
     let same : h .lease ≡ x = Option·some-injective _ _ (sym (h .stands) ∙ f) in
-    let asked = asked-renewal {r = k .receipt} {old = x} checks (k .why) (rw (k .on) f) (rw same at (h .number)) (rw same at (h .own)) refl refl refl refl refl refl refl in
+    let asked = asked-renewal {q = q} {b = b} {r = k .receipt} {old = x} (rw (k .on) (renewable q b axis x checks e f)) (k .why) (rw same at (h .number)) (rw same at (h .own)) refl refl refl refl refl refl refl in
     subst (λ l. Given (Renew q) (q .now) b l after is) (g .0)
     (given k asked (getD-set-same (b .leases) axis (some (extended q x)) none (within (b .leases) axis x f)))
 
@@ -208,3 +210,29 @@ pub lease-answered : (s : Start) (h : History) (x : Exchange) (b : Book) (l : Le
 lease-answered s h x b l out e f =
     let at = ended s h x b e f (Leased l) out in
     answered s h x b l at (x .call) refl (suits (x .call) b (at .run)) (at .run)
+
+-- ---- where every condition holds it is granted
+
+leased-answer : {rs : List Reply} {is : List Item} {after : Book} {a : Answer} (axis : ℕ) (l : Lease) (reason : Reason) (now : ℕ) (b : Book)
+    → Runs (leased axis l reason now b) rs is (Done after a) → a ≡ Leased l
+unfolding leased recordReceipt
+leased-answer axis l reason now b (then recorded w) = sym (at-end w .answer)
+
+past-grant : {rs first : List Reply} {firstItems is : List Item} {book after : Book} {a : Answer} (second : List Reply) (c : Call) (q : LeaseRequest) (now : ℕ)
+    (before : Book) → c ≡ Acquire q now → rs ≡ first ++ second
+    → Runs (tick now before (λ b. Done b Returned)) first firstItems (Done book Returned) → firstFailing (acquireChecks q now book) ≡ none
+    → Runs (begin c before) rs is (Done after a) → (l : Lease) × (a ≡ Leased l)
+unfolding begin acquire grant
+past-grant {book = book} second c q now before e same ticked checks w =
+    let k = resumes now (λ b. grant (firstFailing (acquireChecks q now b)) q now b) before same ticked (rw e at w) in (
+      _,
+      leased-answer (q .resource) (newLease q (book .nextLease) now) Reason.LeaseGranted now (granted (newLease q (book .nextLease) now) book)
+          (rw checks at (k .1)),
+    )
+
+pub lease-granted : (s : Start) (h : History) (x : Exchange) (b : Book) (a : Answer) → outputAfter s h ≡ Answers a
+    → current (logOf s h) ≡ some x → bookBefore s h ≡ some b → (q : LeaseRequest) (now : ℕ) → x .call ≡ Acquire q now
+    → (book : Book) → Ticked now b x book → Grantable q now book → (l : Lease) × (a ≡ Leased l)
+lease-granted s h x b a out e f q now call book t g =
+    let at = ended s h x b e f a out in
+    past-grant (t .later) (x .call) q now b call (t .replies) (t .run) (grantable-checked q now book g) (at .run)

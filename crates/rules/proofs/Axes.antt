@@ -14,6 +14,7 @@ use Rattle.rules.specs.Lists.{Mem}
 use Rattle.rules.specs.Rules.{select, usedAxes}
 use Rattle.rules.specs.Protocol.{Start}
 use Rattle.rules.specs.SoundStart.{SoundCapability, SoundStart}
+use Rattle.rules.proofs.Basics.{or-right}
 
 abbrev upFrom : ℕ → ℕ → List ℕ
 upFrom i zero = []
@@ -50,6 +51,22 @@ mem-select p (j ∷ is) i e (inr m) = go (p j) (mem-select p is i e m)
 pub mem-used : (cs : List Capability) (i : ℕ) → axisUsed cs i ≡ true → Mem i axes → Mem i (usedAxes cs)
 unfolding usedAxes
 mem-used cs i e m = mem-select (axisUsed cs) axes i e m
+
+-- ---- a used axis and the records that name it
+
+pub namer : (cs : List Capability) (axis : ℕ) → axisUsed cs axis ≡ true → (c : Capability) × Mem c cs × (c .resource ≡ axis)
+namer [] axis e = absurd (false≢true e)
+namer (c ∷ cs) axis e = go (eqb (c .resource) axis) refl e (namer cs axis)
+  where
+    go : (t : Bool) → eqb (c .resource) axis ≡ t → (t || axisUsed cs axis) ≡ true
+        → (axisUsed cs axis ≡ true → (d : Capability) × Mem d cs × (d .resource ≡ axis)) → (d : Capability) × Mem d (c ∷ cs) × (d .resource ≡ axis)
+    go true q e rest = (c, inl refl, eqb-true _ _ q)
+    go false q e rest = let k = rest e in (k .0, inr (k .1), k .2)
+
+pub named-used : (k : Capability) (cs : List Capability) → Mem k cs → axisUsed cs (k .resource) ≡ true
+named-used k [] m = absurd m
+named-used k (c ∷ cs) (inl e) = rw (← e, eq-eqb (k .resource) (k .resource) refl)
+named-used k (c ∷ cs) (inr m) = or-right (eqb (c .resource) (k .resource)) _ (named-used k cs m)
 
 -- ---- a sound start
 

@@ -16,7 +16,7 @@ use Rattle.rules.specs.Protocol.{Call, Submit, Reply, Input, Item, ItemR
 use Rattle.rules.specs.Log.{History, phaseAfter, outputAfter, Handed, Ended, Log, handed, logOf, opened, bookBefore, Exchange, current}
 use Rattle.rules.specs.Way.{Runs, Ticked}
 use Rattle.rules.proofs.Steps.{eventAt, effective, Step, stays, tries, begins, answers, step}
-use Rattle.rules.proofs.Trees.{OfFallback, itemsAt, Beyond, past, tick-then}
+use Rattle.rules.proofs.Trees.{OfFallback, itemsAt, Beyond, past, tick-then, rest}
 use Rattle.rules.proofs.InHand.{Stood, stands}
 use Rattle.rules.proofs.Turns.{newest}
 
@@ -116,6 +116,14 @@ opens now next before w beyond =
       items = p .splitItems;
       left = rw (p .end .1) at (p .left);
     }
+
+-- what is left of a run after the run of its tick
+pub resumes : {rs first second : List Reply} {firstItems is : List Item} {book : Book} {v : Interaction} (now : ℕ) (next : Book → Interaction) (before : Book)
+    → rs ≡ first ++ second → Runs (tick now before (λ b. Done b Returned)) first firstItems (Done book Returned) → Runs (tick now before next) rs is v
+    → (later : List Item) × Runs (next book) second later v
+resumes now next before q ticked w =
+    let k = rest (tick-then now next before) ticked (rw q at w) in
+    (k .items, rw (k .end .1) at (k .left))
 
 -- a submission: its admission follows the tick
 pub opens-order : {rs : List Reply} {is : List Item} {v : Interaction} (c : Call) (o : Submission) (before : Book) → c ≡ Submit o

@@ -35,11 +35,11 @@ use Rattle.rules.specs.Log.{History, phaseAfter, outputAfter, logOf, boo
 use Rattle.rules.specs.Admissible.{Admissible}
 use Rattle.rules.specs.Way.{observed, executed, recorded, Runs, then, Ticked}
 use Rattle.rules.specs.AnswerFacts.{Verified, AllFour, FailedSo}
-use Rattle.rules.proofs.Trees.{over, rest, at-end, tick-then}
+use Rattle.rules.proofs.Trees.{over, at-end}
 use Rattle.rules.proofs.Records.{with-named}
 use Rattle.rules.proofs.Admission.{admitted-exactly}
 use Rattle.rules.proofs.Exactly.{admits}
-use Rattle.rules.proofs.Ends.{EndedAt, ended, Opened, opens-order, ticked-by}
+use Rattle.rules.proofs.Ends.{EndedAt, ended, Opened, opens-order, resumes, ticked-by}
 use Rattle.rules.proofs.Once.{holds}
 use Rattle.rules.proofs.Suits.{submission, suits, storm-answers}
 use Rattle.rules.proofs.Refused.{Swept, swept-fallbacks}
@@ -257,9 +257,7 @@ past-tick : {rs first second : List Reply} {firstItems is : List Item} {book : B
     → c ≡ Submit o → rs ≡ first ++ second → Runs (tick (o .now) before (λ b. Done b Returned)) first firstItems (Done book Returned)
     → Runs (begin c before) rs is v → (later : List Item) × Runs (admit (validate o book) o book) second later v
 unfolding begin submit
-past-tick c o before e q ticked w =
-    let k = rest (tick-then (o .now) (λ b. admit (validate o b) o b) before) ticked (rw (e, q) at w) in
-    (k .items, rw (k .end .1) at (k .left))
+past-tick c o before e q ticked w = resumes (o .now) (λ b. admit (validate o b) o b) before q ticked (rw e at w)
 
 module _ (s : Start) (h : History) (x : Exchange) (b : Book) (r : Receipt) (out : outputAfter s h ≡ Answers (Submitted r))
     (e : current (logOf s h) ≡ some x) (f : bookBefore s h ≡ some b) where

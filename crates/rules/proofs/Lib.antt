@@ -1,6 +1,8 @@
 pub mod Basics
+pub mod Masks
 pub mod Admission
 pub mod Checks
+pub mod Grantable
 pub mod Steps
 pub mod Turns
 pub mod Forward

@@ -27,21 +27,21 @@ use Rattle.rules.specs.SoundStart.{Verifiable, SoundCapability, Named}
 -- ---- a test of every element
 
 module _ {A : Type 0} (p : A → Bool) (P : A → Type 0) where
-  all-each : ((a : A) → p a ≡ true → P a) → (l : List A) → all p l ≡ true → (a : A) → Mem a l → P a
+  pub all-each : ((a : A) → p a ≡ true → P a) → (l : List A) → all p l ≡ true → (a : A) → Mem a l → P a
   all-each f [] e a m = absurd m
   all-each f (x ∷ l) e a (inl q) = rw q (f x (and-both (p x) (all p l) e .0))
   all-each f (x ∷ l) e a (inr m) = all-each f l (and-both (p x) (all p l) e .1) a m
 
-  each-all : ((a : A) → P a → p a ≡ true) → (l : List A) → ((a : A) → Mem a l → P a) → all p l ≡ true
+  pub each-all : ((a : A) → P a → p a ≡ true) → (l : List A) → ((a : A) → Mem a l → P a) → all p l ≡ true
   each-all f [] h = refl
   each-all f (x ∷ l) h = sym (and-when (f x (h x (inl refl))) (sym (each-all f l (λ a m. h a (inr m)))))
 
 -- ---- bounds
 
-ordered-means : (b : Bounds) → ordered b ≡ true → b .min ≤ℤ b .max
+pub ordered-means : (b : Bounds) → ordered b ≡ true → b .min ≤ℤ b .max
 ordered-means b e = record { le = subst⁻¹ T e tt }
 
-means-ordered : (b : Bounds) → b .min ≤ℤ b .max → ordered b ≡ true
+pub means-ordered : (b : Bounds) → b .min ≤ℤ b .max → ordered b ≡ true
 means-ordered b h = go (ordered b) (h .le)
   where
     go : (t : Bool) → T t → t ≡ true

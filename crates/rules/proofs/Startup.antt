@@ -1,14 +1,13 @@
 -- There is a runtime exactly if 01's checks of the start pass and the startup fallback succeeded on every used axis: the parts
 -- `startup-first` and `there-is-a-runtime` of the claim. Assumes nothing.
 use Prim.Native.Nat.{ℕ, zero, suc, _+_, _≤_}
-use mathlib.Core.Bool.{Bool, true, false, cond, _&&_, _||_, false≢true, true≢false}
+use mathlib.Core.Bool.{Bool, true, false, cond, _&&_, false≢true, true≢false}
 use mathlib.Core.List.{List, [], _∷_, _++_, map, append-nil, append-assoc}
 use mathlib.Core.Logic.{_≢_, _⊎_, inl, inr, ⊎-elim}
 use mathlib.Core.Option.{Option, some, none, Option·none-ne-some, Option·some-ne-none}
 use mathlib.Core.Path.{_≡_, refl, sym, ap, ap₂, _∙_, subst}
 use native.Mathlib.Omega.{arith}
-use borrow.Author.Tests.{eqb-true, eq-eqb, ne-eqb}
-use lib.Dec.{eqb}
+use borrow.Author.Tests.{eq-eqb, ne-eqb}
 use lib.IntN.{ℤ}
 use lib.ListN.{length, length-map, length-append, getD, replicate, take, getElem?}
 use lib.Seq.{take-all}
@@ -27,9 +26,8 @@ use Rattle.rules.specs.SoundStart.{SoundStart}
 use Rattle.rules.specs.Claim.{StartedUp, StartedOn, OpensSo, Increasing, AreUsed}
 use Rattle.rules.specs.Turns.{awaited}
 use Rattle.rules.specs.Refusals.{StartupFailed}
-use Rattle.rules.proofs.Basics.{or-right}
 use Rattle.rules.proofs.Soundness.{sound-start, start-sound}
-use Rattle.rules.proofs.Axes.{low-axis, mem-used}
+use Rattle.rules.proofs.Axes.{low-axis, mem-used, namer, named-used}
 use Rattle.rules.proofs.Turns.{awaitedIn, stands, newest}
 use Rattle.rules.proofs.Steps.{Stands, atObserve, atExecute, atFallback, atRecord, eventAt, handed-event, effective, start-effective, Step, stays, tries, begins, answers, step}
 
@@ -308,15 +306,6 @@ selected p (j ∷ is) i m = go (p j) refl m (selected p is i)
     go true e (inr m) rest = rest m
     go false e m rest = rest m
 
-namer : (cs : List Capability) (axis : ℕ) → axisUsed cs axis ≡ true → (c : Capability) × Mem c cs × (c .resource ≡ axis)
-namer [] axis e = absurd (false≢true e)
-namer (c ∷ cs) axis e = go (eqb (c .resource) axis) refl e (namer cs axis)
-  where
-    go : (t : Bool) → eqb (c .resource) axis ≡ t → (t || axisUsed cs axis) ≡ true
-        → (axisUsed cs axis ≡ true → (d : Capability) × Mem d cs × (d .resource ≡ axis)) → (d : Capability) × Mem d (c ∷ cs) × (d .resource ≡ axis)
-    go true q e rest = (c, inl refl, eqb-true _ _ q)
-    go false q e rest = let k = rest e in (k .0, inr (k .1), k .2)
-
 -- ---- an execute item comes after the start
 
 -- an item other than a startup fallback is handed out by a call
@@ -336,12 +325,8 @@ place-of axis (a ∷ axes) (inr m) = let k = place-of axis axes m in (suc (k .0)
 
 -- an axis that a record of a sound start names is used
 used : (s : Start) → SoundStart s → (k : Capability) → Mem k (s .capabilities) → Mem (k .resource) (usedAxes (s .capabilities))
-used s h k m = mem-used (s .capabilities) (k .resource) (names (s .capabilities) m) (low-axis (k .resource) (omega (arith, h .records .each k m .axis)))
-  where
-    names : (cs : List Capability) → Mem k cs → axisUsed cs (k .resource) ≡ true
-    names [] m = absurd m
-    names (c ∷ cs) (inl e) = rw (← e, eq-eqb (k .resource) (k .resource) refl)
-    names (c ∷ cs) (inr m) = or-right (eqb (c .resource) (k .resource)) _ (names cs m)
+used s h k m =
+    mem-used (s .capabilities) (k .resource) (named-used k (s .capabilities) m) (low-axis (k .resource) (omega (arith, h .records .each k m .axis)))
 
 pub startup-first : (s : Start) (h : History) (c : ℕ) (p : List ℤ) → outputAfter s h ≡ Hands (ItemExecute c p)
     → (k : Capability) → Mem k (s .capabilities) → StartedOn (k .resource) (logOf s h)

@@ -27,6 +27,7 @@ answer-facts s h =
       executed = λ x b r out e f. Executed.executed-exactly s h x b r out e f;
       failed = λ x b r out e f. Executed.failed-so s h x b r out e f;
       lease = Answered.lease-answered s h;
+      grants = Answered.lease-granted s h;
       rising = Rising.rising s h;
     }
 

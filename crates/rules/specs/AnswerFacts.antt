@@ -4,7 +4,7 @@ use Prim.Native.Nat.{ℕ, _+_, _<_}
 use mathlib.Core.Bool.{Bool, true}
 use mathlib.Core.List.{List, [], _∷_}
 use mathlib.Core.Logic.{_⊎_, _≢_, _↔_}
-use mathlib.Core.Option.{some, none}
+use mathlib.Core.Option.{some}
 use mathlib.Core.Path.{_≡_}
 use lib.Bits.{bitAnd}
 use lib.IntN.{ℤ}
@@ -25,7 +25,7 @@ use Rattle.rules.specs.Lists.{Mem}
 use Rattle.rules.specs.Book.{Book, leaseAt}
 use Rattle.rules.specs.Receipts.{top}
 use Rattle.rules.specs.Interaction.{Answer, Returned, Polled, Succeeded, Leased, Refused, Submitted}
-use Rattle.rules.specs.Admission.{firstFailing, acquireChecks, renewChecks}
+use Rattle.rules.specs.Grantable.{Grantable, Renewable}
 use Rattle.rules.specs.Rules.{usedAxes}
 use Rattle.rules.specs.Protocol.{Call, Tick, UpdateState, EmergencyStop, PollEstop, RecoverLocal, Acquire, Renew, Cancel, Submit, Observed, Executed, Recorded, ItemObserve, ItemFallback, ItemRecord, Answers, Start, Idle}
 use Rattle.rules.specs.Log.{History, phaseAfter, outputAfter, Took, Replied, Handed, Ended, Log, logOf, bookBefore, Exchange, current, nextNumber}
@@ -116,14 +116,13 @@ pub record FailedSo (s : Start) (h : History) (x : Exchange) (before : Book) (r 
   pub left : phaseAfter s h ≡ Idle book
   pub state : book .state ≡ State.Faulted
 
--- the lease is what the call asked for, every check of it holds in the book that its tick left, and its receipt says which of the two it was
+-- the lease is what the call asked for, every condition of 01 holds in the book that its tick left, and its receipt says which of the two it was
 pub data Asked : Call → ℕ → Book → Receipt → Lease → Type 0 where
-  granted : {q : LeaseRequest} {now : ℕ} {b : Book} {r : Receipt} {l : Lease} → firstFailing (acquireChecks q now b) ≡ none
+  granted : {q : LeaseRequest} {now : ℕ} {b : Book} {r : Receipt} {l : Lease} → Grantable q now b
       → r .reason ≡ Reason.LeaseGranted → r .resource ≡ q .resource → l .id ≡ b .nextLease
       → l .owner ≡ q .owner → l .resource ≡ q .resource → l .capabilities ≡ q .capabilities → l .limits ≡ q .limits
       → l .«expires_at» ≡ now + q .«duration_ms» → l .«last_sequence» ≡ 0 → l .«last_renewal» ≡ 0 → Asked (Acquire q now) now b r l
-  renewed : {q : Renewal} {b : Book} {r : Receipt} {l old : Lease} → firstFailing (renewChecks q b) ≡ none
-      → r .reason ≡ Reason.LeaseRenewed → leaseAt b (r .resource) ≡ some old
+  renewed : {q : Renewal} {b : Book} {r : Receipt} {l old : Lease} → Renewable q b (r .resource) old → r .reason ≡ Reason.LeaseRenewed
       → l .id ≡ q .«lease_id» → l .owner ≡ q .owner → l .«last_renewal» ≡ q .renewal
       → l .«expires_at» ≡ q .now + q .«duration_ms» → l .id ≡ old .id → l .resource ≡ old .resource → l .capabilities ≡ old .capabilities
       → l .limits ≡ old .limits → l .«last_sequence» ≡ old .«last_sequence» → Asked (Renew q) (q .now) b r l
@@ -153,5 +152,9 @@ pub record AnswerFacts (s : Start) (h : History) : Type 0 where
       → bookBefore s h ≡ some b → r .decision ≡ Decision.Failed → FailedSo s h x b r
   pub lease : (x : Exchange) (b : Book) (l : Lease) → outputAfter s h ≡ Answers (Leased l) → current (logOf s h) ≡ some x
       → bookBefore s h ≡ some b → LeaseAnswered s h x b l
+  -- where all of them hold a lease is granted
+  pub grants : (x : Exchange) (b : Book) (a : Answer) → outputAfter s h ≡ Answers a → current (logOf s h) ≡ some x → bookBefore s h ≡ some b
+      → (q : LeaseRequest) (now : ℕ) → x .call ≡ Acquire q now → (book : Book) → Ticked now b x book → Grantable q now book
+      → (l : Lease) × (a ≡ Leased l)
   -- the numbers of the orders' receipts rise from answer to answer, below the top of 64 bits
   pub rising : nextNumber (logOf s h) < top → Falling (nextNumber (logOf s h)) (answeredReceipts (logOf s h))

@@ -6,6 +6,7 @@ pub mod Interaction
 pub mod Admission
 pub mod SoundStart
 pub mod Admissible
+pub mod Grantable
 pub mod Rules
 pub mod Protocol
 pub mod Lives

@@ -1,6 +1,6 @@
 -- The customer's sentences (00, demand 3), and 01's that belong to them, each from the claim alone: nothing is used here but the claim and the
 -- definitions that it names, so that no part of it can be weakened unnoticed.
-use Prim.Native.Nat.{ℕ, _+_, _<_, _≤_, _^_, min}
+use Prim.Native.Nat.{ℕ, _+_, _-_, _<_, _≤_, _^_, min}
 use mathlib.Core.Bool.{true, false, false≢true}
 use mathlib.Core.List.{List, [], _∷_, _++_, map}
 use mathlib.Core.Logic.{_⊎_, inl, inr, _≢_, _↔_}
@@ -9,14 +9,18 @@ use mathlib.Core.Path.{_≡_, refl, sym, ap, _∙_, subst}
 use native.Mathlib.Omega.{arith}
 use lib.Bits.{bitAnd}
 use lib.IntN.{ℤ}
+use lib.Signed.{_≤ℤ_}
 use lib.ListN.{take, getElem?}
 use Rattle.model.specs.declared.Action.{Action}
+use Rattle.model.specs.declared.Bounds.{Bounds}
 use Rattle.model.specs.declared.Capability.{Capability}
 use Rattle.model.specs.declared.Decision.the-variants as Decision
 use Rattle.model.specs.declared.Lease.{Lease}
+use Rattle.model.specs.declared.LeaseRequest.{LeaseRequest}
 use Rattle.model.specs.declared.Observation.{Observation}
 use Rattle.model.specs.declared.Reason.the-variants as Reason
 use Rattle.model.specs.declared.Receipt.{Receipt}
+use Rattle.model.specs.declared.Renewal.{Renewal}
 use Rattle.model.specs.declared.Replay.{Replay}
 use Rattle.model.specs.declared.RuntimeState.the-variants as State
 use Rattle.model.specs.declared.Submission.{Submission}
@@ -26,13 +30,14 @@ use Rattle.rules.specs.Receipts.{top}
 use Rattle.rules.specs.Interaction.{Answer, Leased, Submitted}
 use Rattle.rules.specs.Admissible.{Admissible}
 use Rattle.rules.specs.Rules.{usedAxes, replayCapacity}
-use Rattle.rules.specs.Protocol.{Call, Submit, Reply, Observed, Executed, Recorded, FellBack, Reading, Calls, Replies, Reads, Item, ItemObserve, ItemExecute, ItemFallback, ItemRecord, Output, Started, StartRefused, Hands, Answers, Reminds, Refuses, Shows, NoRuntime, Start, Idle, bookIn, read}
+use Rattle.rules.specs.Protocol.{Call, Acquire, Renew, Submit, Reply, Observed, Executed, Recorded, FellBack, Reading, Calls, Replies, Reads, Item, ItemObserve, ItemExecute, ItemFallback, ItemRecord, Output, Started, StartRefused, Hands, Answers, Reminds, Refuses, Shows, NoRuntime, Start, Idle, bookIn, read}
 use Rattle.rules.specs.Lives.{Life}
 use Rattle.rules.specs.Log.{History, phaseAfter, outputAfter, Took, Replied, Handed, Ended, Log, handed, tookEffect, arrived, logged, logOf, opened, bookBefore, callOf, Exchange, withReply, withItem, current, startItems, startReplies, executedIn, nextNumber, receiptsKept, observing, Admitted, admissions, entryOf, highest, isGrant, Tenancy, live}
 use Rattle.rules.specs.Epoch.{seenRaise, flagsOf, bumps}
 use Rattle.rules.specs.SoundStart.{Named, SoundStart}
 use Rattle.rules.specs.Turns.{awaited, fits, Proceeds}
 use Rattle.rules.specs.AnswerFacts.{answeredReceipts, Falling, AnswersTo, OfOrder, Verified, AllFour, Asked}
+use Rattle.rules.specs.Grantable.{Grantable, Renewable}
 use Rattle.rules.specs.Way.{Ticked}
 use Rattle.rules.specs.Claim.{Between, nameOf, OpensSo, AreUsed, Claim}
 use Rattle.rules.specs.Claim as Claimed
@@ -215,6 +220,29 @@ holds {l = l} k =
     }
 
 -- demand 3 -----------------------------------------------------------------------------------------------------------------
+
+-- what was asked for, of a call that is known --------------------------------------------------------------------------
+
+acquire-same : {p q : LeaseRequest} {m n : ℕ} → Acquire p m ≡ Acquire q n → (p ≡ q) × (m ≡ n)
+acquire-same e = (cc, cc)
+
+renew-same : {p q : Renewal} → Renew p ≡ Renew q → p ≡ q
+renew-same e = cc
+
+renew≢acquire : {p : Renewal} {q : LeaseRequest} {n : ℕ} → Renew p ≡ Acquire q n → ⊥
+renew≢acquire e = false≢true cc
+
+granted-asked : {c : Call} {now n : ℕ} {b : Book} {r : Receipt} {l : Lease} {q : LeaseRequest} → c ≡ Acquire q n → Asked c now b r l
+    → (now ≡ n) × Grantable q n b
+granted-asked {q = q} e (Asked.granted {q = p} {now = now} {b = b} g d₁ d₂ d₃ d₄ d₅ d₆ d₇ d₈ d₉ d₁₀) =
+    let n = acquire-same e in (n .1, subst (λ m. Grantable q m b) (n .1) (subst (λ p. Grantable p now b) (n .0) g))
+granted-asked e (Asked.renewed k d₁ d₂ d₃ d₄ d₅ d₆ d₇ d₈ d₉ d₁₀) = absurd (renew≢acquire e)
+
+renewed-asked : {c : Call} {now : ℕ} {b : Book} {r : Receipt} {l : Lease} {q : Renewal} → c ≡ Renew q → Asked c now b r l
+    → (now ≡ q .now) × (old : Lease) × Renewable q b (r .resource) old
+renewed-asked e (Asked.granted g d₁ d₂ d₃ d₄ d₅ d₆ d₇ d₈ d₉ d₁₀) = absurd (renew≢acquire (sym e))
+renewed-asked e (Asked.renewed {b = b} {r = r} {old = old} k d₁ d₂ d₃ d₄ d₅ d₆ d₇ d₈ d₉ d₁₀) =
+    let n = renew-same e in (ap (λ (p : Renewal). p .now) n, old, subst (λ p. Renewable p b (r .resource) old) n k)
 
 module _ (lives : List Life) (claim : Claim lives) where
   -- "one order, all eleven fields alike, reaches `execute` at most once in all of them"
@@ -477,3 +505,73 @@ module _ (lives : List Life) (claim : Claim lives) where
   lease-told s h x b l e q f =
       let k = claim .answers s h .lease x b l e q f in
       (k .now, k .ticked-book, k .ticked, k .receipt, k .asked, k .handed, k .control, k .lease, k .owner, k .book, k .idle, k .stands)
+
+  -- 01: "`acquire`, after tick: readiness; 10; 3; 19 taken; 10 expiry past u64", each as a fact about the book that the tick left
+  pub granted-means : (s : Start) (h : History) (x : Exchange) (b : Book) (l : Lease) → outputAfter s h ≡ Answers (Leased l)
+      → current (logOf s h) ≡ some x → bookBefore s h ≡ some b → (q : LeaseRequest) (now : ℕ) → x .call ≡ Acquire q now
+      → (ticked : Book) × Ticked now b x ticked
+      × (ticked .state ≢ State.Estopped) × (ticked .state ≢ State.Faulted) × (ticked .lastTick ≤ now)
+      × (now - ticked .stateAt < ticked .config .«state_ttl_ms»)
+      × ((c : Capability) × Mem c (ticked .capabilities) × (c .resource ≡ q .resource)) × (q .owner ≢ 0) × (q .capabilities ≢ 0)
+      × (q .«duration_ms» ≢ 0) × (q .«duration_ms» ≤ ticked .config .«max_lease_ms»)
+      × ((y : Bounds) → Mem y (q .limits) → y .min ≤ℤ y .max)
+      × ((n : ℕ) → bitAnd (q .capabilities) (2 ^ n) ≢ 0
+      → (c : Capability) × Mem c (ticked .capabilities) × (c .resource ≡ q .resource) × (c .id ≡ n))
+      × (leaseAt ticked (q .resource) ≡ none) × (now + q .«duration_ms» ≤ top)
+  granted-means s h x b l e u f q now c =
+      let k = claim .answers s h .lease x b l e u f in
+      let g = granted-asked c (k .asked) in
+      let r = g .1 .ready in (
+        k .ticked-book,
+        subst (λ n. Ticked n b x (k .ticked-book)) (g .0) (k .ticked),
+        r .not-estopped,
+        r .not-faulted,
+        r .clock,
+        r .fresh,
+        g .1 .used,
+        g .1 .owner,
+        g .1 .mask,
+        g .1 .duration .0,
+        g .1 .duration .1,
+        g .1 .limits,
+        g .1 .bits,
+        g .1 .free,
+        g .1 .fits,
+      )
+
+  -- and where they all hold it is granted
+  pub granted-where : (s : Start) (h : History) (x : Exchange) (b : Book) (a : Answer) → outputAfter s h ≡ Answers a
+      → current (logOf s h) ≡ some x → bookBefore s h ≡ some b → (q : LeaseRequest) (now : ℕ) → x .call ≡ Acquire q now
+      → (ticked : Book) → Ticked now b x ticked → Grantable q now ticked → (l : Lease) × (a ≡ Leased l)
+  granted-where s h x b a e u f q now c ticked t g = claim .answers s h .grants x b a e u f q now c ticked t g
+
+  -- 01: "`renew`: tick, readiness, 10 duration, 3 no lease with this id and owner, 6 renewal not above the last one, 10 overflow"
+  pub renewed-means : (s : Start) (h : History) (x : Exchange) (b : Book) (l : Lease) → outputAfter s h ≡ Answers (Leased l)
+      → current (logOf s h) ≡ some x → bookBefore s h ≡ some b → (q : Renewal) → x .call ≡ Renew q
+      → (ticked : Book) × Ticked (q .now) b x ticked
+      × (ticked .state ≢ State.Estopped) × (ticked .state ≢ State.Faulted) × (ticked .lastTick ≤ q .now)
+      × (q .now - ticked .stateAt < ticked .config .«state_ttl_ms»)
+      × (q .«duration_ms» ≢ 0) × (q .«duration_ms» ≤ ticked .config .«max_lease_ms»)
+      × (axis : ℕ) × (old : Lease) × (leaseAt ticked axis ≡ some old) × (old .id ≡ q .«lease_id») × (old .owner ≡ q .owner)
+      × (old .«last_renewal» < q .renewal) × (q .now + q .«duration_ms» ≤ top)
+  renewed-means s h x b l e u f q c =
+      let k = claim .answers s h .lease x b l e u f in
+      let g = renewed-asked c (k .asked) in
+      let w = g .2 in
+      let r = w .ready in (
+        k .ticked-book,
+        subst (λ n. Ticked n b x (k .ticked-book)) (g .0) (k .ticked),
+        r .not-estopped,
+        r .not-faulted,
+        r .clock,
+        r .fresh,
+        w .duration .0,
+        w .duration .1,
+        k .receipt .resource,
+        g .1,
+        w .stands,
+        w .held .0,
+        w .held .1,
+        w .newer,
+        w .fits,
+      )
