@@ -3,6 +3,7 @@
 use Prim.Native.Nat.{ℕ, zero, suc, _<_}
 use mathlib.Core.Bool.{true, false≢true}
 use mathlib.Core.List.{List, [], _∷_, _++_}
+use mathlib.Core.Logic.{inl, inr, ⊎-elim}
 use mathlib.Core.Option.{Option, some, none, Option·none-ne-some, Option·some-injective}
 use mathlib.Core.Path.{_≡_, refl, sym, ap, _∙_, subst}
 use native.Mathlib.Omega.{arith}
@@ -31,6 +32,7 @@ use Rattle.rules.specs.Grantable.{Grantable}
 use Rattle.rules.specs.AnswerFacts.{AnswersTo, acquires, renews, OfOrder, OrderAnswered, Asked, Asked.granted as asked-grant, Asked.renewed as asked-renewal, LeaseAnswered}
 use Rattle.rules.proofs.Admission.{none-fails}
 use Rattle.rules.proofs.Checks.{held}
+use Rattle.rules.proofs.Executed.{observed-not-rejected}
 use Rattle.rules.proofs.Grantable.{grantable, grantable-checked, renewable}
 use Rattle.rules.proofs.Axes.{used-low}
 use Rattle.rules.proofs.Trees.{over, at-end}
@@ -50,6 +52,7 @@ module _ (s : Start) (h : History) (x : Exchange) (a : Answer) (out : outputAfte
 
 pub order-answered : (s : Start) (h : History) (x : Exchange) (r : Receipt) → outputAfter s h ≡ Answers (Submitted r)
     → current (logOf s h) ≡ some x → OrderAnswered x r
+unfolding at-answer
 order-answered s h x r out e =
     let order = submission (kind-answered s h x (Submitted r) out e) in
     let at = at-answer s h x (Submitted r) out e in
@@ -61,7 +64,8 @@ order-answered s h x r out e =
       call = order .1;
       own = subst (OfOrder (order .0)) same (t .0 .own);
       handed = subst (λ r. Mem (ItemRecord r) (x .items)) same (t .0 .handed);
-      admitted = subst (Settled (x .items)) same (t .1);
+      admitted = ⊎-elim inl (λ d. inr (λ axis m. observed-not-rejected s h x (at .0) r out e (begun s h x e .1) axis m d, d))
+          (subst (Settled (x .items)) same (t .1));
     }
 
 -- ---- the answer of a grant or a renewal

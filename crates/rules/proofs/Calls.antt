@@ -383,7 +383,7 @@ module _ (s : Start) where
       → Safe (I s) (End s) (Replied (Observed seen) ∷ (Handed (ItemObserve (c .resource)) ∷ l)) (dispatch c (streamEnd x o) o (consumed c x o b) seen)
   unfolding dispatch callOf updated observing dispatching executed reaching admissions admitting submissionIn live holding
   inv-dispatch o c x l b a h settled none h₁ =
-      inv-fail o c Reason.Driver notSent _ (consumed c x o b) ((inv-replied s _ (consumed c x o b) h₁ (Observed none), (h .0 .1 .0, refl)), h .1 .0)
+      inv-fail o c _ notSent _ (consumed c x o b) ((inv-replied s _ (consumed c x o b) h₁ (Observed none), (h .0 .1 .0, refl)), h .1 .0)
   inv-dispatch o c x l b a h settled (some seen) h₁ =
       let b₁ = consumed c x o b in
       let l₂ : Log = Replied (Observed (some seen)) ∷ (Handed (ItemObserve (c .resource)) ∷ l) in

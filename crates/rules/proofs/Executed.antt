@@ -24,21 +24,22 @@ use Rattle.model.specs.declared.Submission.{Submission}
 use Rattle.model.specs.declared.Verification.{Verification}
 use Rattle.model.specs.declared.Verification.the-variants.{Parameters, State as StateIs}
 use Rattle.model.proofs.Tests.{and-both}
+use Rattle.rules.specs.Lists.{Mem}
 use Rattle.rules.specs.Book.{Book}
 use Rattle.rules.specs.With.{withLeases, withReplay, withReceipts, withNextReceipt, withState}
 use Rattle.rules.specs.Receipts.{numbered, orderReceipt, Progress, kept}
 use Rattle.rules.specs.Interaction.{Returned, Submitted, Interaction, Done, Observe}
 use Rattle.rules.specs.Admission.{isEstopped, firstFailing, admission, orderCapability, Admits, Rejects, verdict, validate}
 use Rattle.rules.specs.Rules.{usedAxes, recordReceipt, tripped, trip, reject, fail, complete, sameParameters, verified, verify, dispatch, streamEnd, consumed, admit, tick, submit}
-use Rattle.rules.specs.Protocol.{Call, Submit, Reply, Observed, Executed, Recorded, Item, Answers, Start, bookIn, begin}
+use Rattle.rules.specs.Protocol.{Call, Submit, Reply, Observed, Executed, Recorded, Item, ItemObserve, ItemFallback, ItemRecord, Answers, Start, bookIn, begin}
 use Rattle.rules.specs.Log.{History, phaseAfter, outputAfter, logOf, bookBefore, Exchange, current}
 use Rattle.rules.specs.Admissible.{Admissible}
 use Rattle.rules.specs.Way.{observed, executed, recorded, Runs, then, Ticked}
-use Rattle.rules.specs.AnswerFacts.{Verified, AllFour, FailedSo}
+use Rattle.rules.specs.AnswerFacts.{Verified, AllFour, FailedBy, unobserved, unexecuted, unobserved-after, unverified, FailedSo}
 use Rattle.rules.proofs.Trees.{over, at-end}
 use Rattle.rules.proofs.Records.{with-named}
 use Rattle.rules.proofs.Admission.{admitted-exactly}
-use Rattle.rules.proofs.Exactly.{admits}
+use Rattle.rules.proofs.Exactly.{admits, admitted-iff}
 use Rattle.rules.proofs.Ends.{EndedAt, ended, Opened, opens-order, resumes, ticked-by}
 use Rattle.rules.proofs.Once.{holds}
 use Rattle.rules.proofs.Suits.{submission, suits, storm-answers}
@@ -107,54 +108,58 @@ faulted reason State.Estopped w n = absurd (n refl)
 
 -- ---- how the run of an admitted order ends
 
--- it failed: its receipt is the answer, and every used axis falls back after it
-record FellShort (before after : Book) (is : List Item) (r : Receipt) : Type 0 where
+-- it failed: its receipt is the answer, and a trip follows it
+record FellShort (now : ℕ) (reason : Reason) (before after : Book) (rs : List Reply) (is : List Item) (r : Receipt) : Type 0 where
   decision : r .decision ≡ Decision.Failed
-  reason : (r .reason ≡ Reason.Driver) ⊎ (r .reason ≡ Reason.Verification)
-  swept : Swept (usedAxes (before .capabilities)) (r .reason) before after is
-  state : after .state ≡ tripped (r .reason) (before .state)
-
-short-later : {before after : Book} {is : List Item} {r : Receipt} (i : Item) → FellShort before after is r → FellShort before after (i ∷ is) r
-short-later i k =
-    record {
-      decision = k .decision;
-      reason = k .reason;
-      swept = record { capabilities = k .swept .capabilities; each = λ axis m. inr (k .swept .each axis m) };
-      state = k .state;
-    }
+  says : r .reason ≡ reason
+  tripping : List Reply
+  replies : rs ≡ Recorded ∷ tripping
+  tripItems : List Item
+  items : is ≡ ItemRecord r ∷ tripItems
+  recorded : Book
+  trips : Runs (trip reason now recorded (λ b. Done b (Submitted r))) tripping tripItems (Done after (Submitted r))
+  swept : Swept (usedAxes (before .capabilities)) reason before after tripItems
+  state : after .state ≡ tripped reason (before .state)
 
 -- the reasons of a failure
 abbrev OfOne : Reason → Type 0
 OfOne reason = (reason ≡ Reason.Driver) ⊎ (reason ≡ Reason.Verification)
 
+of-one : {v : Verification} {ps : List ℤ} {steps : List Reply} {reason : Reason} → FailedBy v ps steps reason → OfOne reason
+of-one unobserved = inl refl
+of-one unexecuted = inl refl
+of-one unobserved-after = inl refl
+of-one (unverified n) = inr refl
+
 submitted-same : {r q : Receipt} → Submitted r ≡ Submitted q → r ≡ q
 submitted-same e = cc
 
-short-of : {is : List Item} {before after : Book} {r : Receipt} (own : Receipt) (reason : Reason) → own .decision ≡ Decision.Failed
-    → own .reason ≡ reason → OfOne reason → own ≡ r → Swept (usedAxes (before .capabilities)) reason before after is
-    → after .state ≡ tripped reason (before .state) → FellShort before after is r
-short-of {is} {before} {after} {r} own reason d q why same sw st =
-    let says : r .reason ≡ reason = ap (λ (x : Receipt). x .reason) (sym same) ∙ q in
-    record {
-      decision = ap (λ (x : Receipt). x .decision) (sym same) ∙ d;
-      reason = rw says why;
-      swept = rw says sw;
-      state = rw says st;
-    }
-
 fell-short : {rs : List Reply} {is : List Item} {after : Book} {r : Receipt} (c : Capability) (reason : Reason) (p : Progress) (o : Submission) (b : Book)
-    → OfOne reason → Runs (fail c reason p o b) rs is (Done after (Submitted r)) → FellShort b after is r
+    → Runs (fail c reason p o b) rs is (Done after (Submitted r)) → FellShort (o .now) reason b after rs is r
 unfolding fail recordReceipt trip numbered orderReceipt kept withNextReceipt withReceipts withState
-fell-short {after = after} c reason p o b why (then recorded w) =
+fell-short {rs} {is} {after} {r} c reason p o b (then {rs = tripping} {is = tripItems} recorded w) =
     let own = numbered (b .nextReceipt) (orderReceipt o (some c) Decision.Failed reason 0 p b) in
     let m = swept-fallbacks (Submitted own) (usedAxes (b .capabilities)) reason (o .now) _ w in
-    short-later {before = b} {after = after} _
-    (short-of own reason refl refl why (submitted-same (m .1 .1)) (record { capabilities = m .0 .capabilities; each = m .0 .each }) (m .1 .0))
+    let same = submitted-same (m .1 .1) in
+    subst (FellShort (o .now) reason b after rs is) same
+    (record {
+      decision = refl;
+      says = refl;
+      tripping = tripping;
+      replies = refl;
+      tripItems = tripItems;
+      items = refl;
+      recorded = kept own b;
+      trips = subst (λ q. Runs (trip reason (o .now) (kept own b) (λ b. Done b (Submitted own))) tripping tripItems (Done after (Submitted q))) (sym same) w;
+      swept = record { capabilities = m .0 .capabilities; each = m .0 .each };
+      state = m .1 .0;
+    })
 
 data Came (c : Capability) (o : Submission) (b : Book) (rs : List Reply) (is : List Item) (after : Book) (r : Receipt) : Type 0 where
   all-four : (first second : Observation) → rs ≡ Observed (some first) ∷ Executed true ∷ Observed (some second) ∷ Recorded ∷ []
       → verified (c .verification) (o .action .parameters) second ≡ true → r .decision ≡ Decision.Executed → Came c o b rs is after r
-  short : FellShort b after is r → Came c o b rs is after r
+  short : (reason : Reason) (steps later : List Reply) (first items : List Item) → FailedBy (c .verification) (o .action .parameters) steps reason
+      → rs ≡ steps ++ later → is ≡ first ++ items → FellShort (o .now) reason b after later items r → Came c o b rs is after r
 
 -- the receipt of an order that is Executed
 completed : {rs : List Reply} {is : List Item} {after : Book} {r : Receipt} (c : Capability) (end : ℕ) (p : Progress) (o : Submission) (b : Book)
@@ -171,7 +176,7 @@ module _ (c : Capability) (o : Submission) (end : ℕ) (b : Book) where
       → Runs (verify c end before o b seen) rs is (Done after (Submitted r))
       → Came c o b (Observed (some first) ∷ Executed true ∷ Observed seen ∷ rs) is after r
   unfolding verify
-  came-verify first before none w = short (fell-short c _ _ o b (inl refl) w)
+  came-verify first before none w = short _ _ _ [] _ unobserved-after refl refl (fell-short c _ _ o b w)
   came-verify {rs} {is} {after} {r} first before (some second) w = go _ (verified (c .verification) (o .action .parameters) second) refl w
     where
       go : (p : Progress) (t : Bool) → verified (c .verification) (o .action .parameters) second ≡ t
@@ -180,11 +185,12 @@ module _ (c : Capability) (o : Submission) (end : ℕ) (b : Book) where
       go p true e w =
           let k = completed c end p o b w in
           all-four first second (ap (λ (q : List Reply). Observed (some first) ∷ Executed true ∷ Observed (some second) ∷ q) (k .0)) e (k .1)
-      go p false e w = short (fell-short c _ p o b (inr refl) w)
+      go p false e w = short _ _ _ [] _ (unverified (λ k. false≢true (sym e ∙ means-verified _ _ _ k))) refl refl (fell-short c _ p o b w)
 
   came-later : {rs : List Reply} {is : List Item} {after : Book} {r : Receipt} (i : Item) → Came c o b rs is after r → Came c o b rs (i ∷ is) after r
   came-later i (all-four first second e v d) = all-four first second e v d
-  came-later i (short k) = short (short-later i k)
+  came-later i (short reason steps later first items cause e q k) =
+      short reason steps later (i ∷ first) items cause e (ap (λ (is : List Item). i ∷ is) q) k
 
   came-executed : {rs : List Reply} {is : List Item} {after : Book} {r : Receipt} (first : Observation) (before : ℕ)
       → Runs (Observe (c .resource) b (verify c end before o b)) rs is (Done after (Submitted r))
@@ -194,8 +200,8 @@ module _ (c : Capability) (o : Submission) (end : ℕ) (b : Book) where
   came-dispatch : {rs : List Reply} {is : List Item} {after : Book} {r : Receipt} (seen : Option Observation)
       → Runs (dispatch c end o b seen) rs is (Done after (Submitted r)) → Came c o b (Observed seen ∷ rs) is after r
   unfolding dispatch
-  came-dispatch none w = short (fell-short c _ _ o b (inl refl) w)
-  came-dispatch (some first) (then (executed {ok = false}) w) = came-later _ (short (fell-short c _ _ o b (inl refl) w))
+  came-dispatch none w = short _ _ _ [] _ unobserved refl refl (fell-short c _ _ o b w)
+  came-dispatch (some first) (then (executed {ok = false}) w) = came-later _ (short _ _ _ [] _ unexecuted refl refl (fell-short c _ _ o b w))
   came-dispatch (some first) (then (executed {ok = true}) w) = came-later _ (came-executed first _ w)
 
 came : {rs : List Reply} {is : List Item} {after : Book} {r : Receipt} (c : Capability) (l : Lease) (o : Submission) (b : Book)
@@ -298,7 +304,7 @@ module _ (s : Start) (h : History) (x : Exchange) (b : Book) (r : Receipt) (out 
             replies = replies;
             verified = verified-means _ _ second good;
           }
-      come a (short n) = absurd (failed≢executed (sym (n .decision) ∙ d))
+      come a (short reason steps later first items cause e q n) = absurd (failed≢executed (sym (n .decision) ∙ d))
 
       go : Judged (order .0) (k .book) → AllFour x b
       go (admitted a) = come a (outcome a)
@@ -343,19 +349,44 @@ module _ (s : Start) (h : History) (x : Exchange) (b : Book) (r : Receipt) (out 
           → Came (a .capability) (order .0) (consumed (a .capability) (a .lease) (order .0) (k .book)) (k .later) (k .laterItems) (at .book) r
           → FailedSo s h x b r
       come a (all-four first second replies good says) = absurd (failed≢executed (sym d ∙ says))
-      come a (short n) =
+      come a (short reason steps later first items cause e q n) =
           record {
             order = order .0;
             call = order .1;
             ticked-book = k .book;
             ticked = ticked;
-            reason = n .reason;
-            fell-back = λ axis m. n .swept .each axis (rw (← n .swept .capabilities, own) m);
+            capability = a .capability;
+            known = a .known;
+            steps = steps;
+            cause = subst (FailedBy (a .capability .verification) (order .0 .action .parameters) steps) (sym (n .says)) cause;
+            tripping = n .tripping;
+            replies = e ∙ ap (λ (rs : List Reply). steps ++ rs) (n .replies);
+            first = first;
+            tripItems = n .tripItems;
+            items = q ∙ ap (λ (is : List Item). first ++ is) (n .items);
+            recorded = n .recorded;
             book = at .book;
+            trip = subst
+                (λ (why : Reason). Runs (trip why (order .0 .now) (n .recorded) (λ b. Done b (Submitted r))) (n .tripping) (n .tripItems)
+                (Done (at .book) (Submitted r))) (sym (n .says)) (n .trips);
+            fell-back = λ axis m. subst (λ (why : Reason). Mem (ItemFallback axis why) (n .tripItems)) (sym (n .says))
+                (n .swept .each axis (rw (← n .swept .capabilities, own) m));
             left = at .idle;
-            state = n .state ∙ faulted (r .reason) (k .book .state) (n .reason) (a .not-estopped);
+            state = n .state ∙ faulted reason (k .book .state) (of-one cause) (a .not-estopped);
           }
 
       go : Judged (order .0) (k .book) → FailedSo s h x b r
       go (admitted a) = come a (outcome a)
       go (refused reason q) = absurd (rejected≢failed (sym (rejects-so reason (order .0) (k .book) (rw q at (k .left))) ∙ d))
+
+  -- what was observed was not rejected
+  pub observed-not-rejected : (axis : ℕ) → Mem (ItemObserve axis) (x .items) → r .decision ≢ Decision.Rejected
+  observed-not-rejected axis m d =
+      let p = admitted-iff s h x b e f (order .0) (order .1) .0 (axis, m) in
+      let a = p .admissible in
+      let w = past-tick (x .call) (order .0) b (order .1) (p .ticked .replies) (p .ticked .run) (at .run) in
+      not-rejected (came (a .capability) (a .lease) (order .0) (p .book) (rw (admits (order .0) (p .book) a) at (w .1)))
+    where
+      not-rejected : {c : Capability} {o : Submission} {b : Book} {rs : List Reply} {is : List Item} {after : Book} → Came c o b rs is after r → ⊥
+      not-rejected (all-four first second replies good says) = rejected≢executed (sym d ∙ says)
+      not-rejected (short reason steps later first items cause e q n) = rejected≢failed (sym d ∙ n .decision)

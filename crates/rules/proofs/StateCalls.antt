@@ -307,7 +307,7 @@ module _ (s : Start) where
   end-dispatch : (o : Submission) (c : Capability) (end : ℕ) (l : Log) (b : Book) (seen : Option Observation) → Tidy s b
       → Safe (Seen s) End l (dispatch c end o b seen)
   unfolding dispatch
-  end-dispatch o c end l b none h = end-fail o c Reason.Driver notSent l b h
+  end-dispatch o c end l b none h = end-fail o c _ notSent l b h
   end-dispatch o c end l b (some seen) h = ((h .0 .0, tt), go)
     where
       p : Progress

@@ -1,10 +1,10 @@
 -- What an answer says is what was handed out: each call has its own kind of answer; an order is answered with its receipt, a grant or a
 -- renewal with the lease that stands.
 use Prim.Native.Nat.{ℕ, _+_, _<_}
-use mathlib.Core.Bool.{Bool, true}
-use mathlib.Core.List.{List, [], _∷_}
+use mathlib.Core.Bool.{Bool, true, false}
+use mathlib.Core.List.{List, [], _∷_, _++_}
 use mathlib.Core.Logic.{_⊎_, _≢_, _↔_}
-use mathlib.Core.Option.{some}
+use mathlib.Core.Option.{some, none}
 use mathlib.Core.Path.{_≡_}
 use lib.Bits.{bitAnd}
 use lib.IntN.{ℤ}
@@ -24,13 +24,13 @@ use Rattle.model.specs.declared.Verification.the-variants.{Parameters, State as
 use Rattle.rules.specs.Lists.{Mem}
 use Rattle.rules.specs.Book.{Book, leaseAt}
 use Rattle.rules.specs.Receipts.{top}
-use Rattle.rules.specs.Interaction.{Answer, Returned, Polled, Succeeded, Leased, Refused, Submitted}
+use Rattle.rules.specs.Interaction.{Answer, Returned, Polled, Succeeded, Leased, Refused, Submitted, Done}
 use Rattle.rules.specs.Grantable.{Grantable, Renewable}
-use Rattle.rules.specs.Rules.{usedAxes}
-use Rattle.rules.specs.Protocol.{Call, Tick, UpdateState, EmergencyStop, PollEstop, RecoverLocal, Acquire, Renew, Cancel, Submit, Observed, Executed, Recorded, ItemObserve, ItemFallback, ItemRecord, Answers, Start, Idle}
+use Rattle.rules.specs.Rules.{usedAxes, trip}
+use Rattle.rules.specs.Protocol.{Call, Tick, UpdateState, EmergencyStop, PollEstop, RecoverLocal, Acquire, Renew, Cancel, Submit, Reply, Observed, Executed, Recorded, Item, ItemObserve, ItemFallback, ItemRecord, Answers, Start, Idle}
 use Rattle.rules.specs.Log.{History, phaseAfter, outputAfter, Took, Replied, Handed, Ended, Log, logOf, bookBefore, Exchange, current, nextNumber}
 use Rattle.rules.specs.SoundStart.{Named}
-use Rattle.rules.specs.Way.{Ticked}
+use Rattle.rules.specs.Way.{Runs, Ticked}
 
 -- the receipts with which submissions ended, newest first
 unfoldable pub answeredReceipts : Log → List Receipt
@@ -78,13 +78,15 @@ pub record OfOrder (o : Submission) (r : Receipt) : Type 0 where
   pub received : r .«received_at» ≡ o .«received_at»
   pub admitted : r .«admitted_at» ≡ o .now
 
--- an order is answered with its own receipt, which was handed out in this call; it is rejected unless it was admitted
+-- an order is answered with its own receipt, which was handed out in this call; it is rejected exactly if it was not admitted
 pub record OrderAnswered (x : Exchange) (r : Receipt) : Type 0 where
   pub order : Submission
   pub call : x .call ≡ Submit order
   pub own : OfOrder order r
   pub handed : Mem (ItemRecord r) (x .items)
-  pub admitted : (((axis : ℕ) × Mem (ItemObserve axis) (x .items)) × (r .decision ≢ Decision.Rejected)) ⊎ (r .decision ≡ Decision.Rejected)
+  pub admitted :
+      (((axis : ℕ) × Mem (ItemObserve axis) (x .items)) × (r .decision ≢ Decision.Rejected))
+      ⊎ (((axis : ℕ) → Mem (ItemObserve axis) (x .items) → ⊥) × (r .decision ≡ Decision.Rejected))
 
 -- the observation equals the parameters, or its state has the value under the mask
 abbrev pub Verified : Verification → List ℤ → Observation → Type 0
@@ -104,15 +106,34 @@ pub record AllFour (x : Exchange) (before : Book) : Type 0 where
   pub replies : ticked .later ≡ Observed (some first) ∷ Executed true ∷ Observed (some second) ∷ Recorded ∷ []
   pub verified : Verified (capability .verification) (order .action .parameters) second
 
+-- which of the four failed, by the replies up to the receipt's: 16 where the driver did, 17 where the verification did
+pub data FailedBy (v : Verification) (ps : List ℤ) : List Reply → Reason → Type 0 where
+  unobserved : FailedBy v ps (Observed none ∷ []) Reason.Driver
+  unexecuted : {first : Observation} → FailedBy v ps (Observed (some first) ∷ Executed false ∷ []) Reason.Driver
+  unobserved-after : {first : Observation} → FailedBy v ps (Observed (some first) ∷ Executed true ∷ Observed none ∷ []) Reason.Driver
+  unverified : {first second : Observation} → (Verified v ps second → ⊥)
+      → FailedBy v ps (Observed (some first) ∷ Executed true ∷ Observed (some second) ∷ []) Reason.Verification
+
 -- 01: "Otherwise Failed (16 or 17), receipt, trip."
 pub record FailedSo (s : Start) (h : History) (x : Exchange) (before : Book) (r : Receipt) : Type 0 where
   pub order : Submission
   pub call : x .call ≡ Submit order
   pub ticked-book : Book
   pub ticked : Ticked (order .now) before x ticked-book
-  pub reason : (r .reason ≡ Reason.Driver) ⊎ (r .reason ≡ Reason.Verification)
-  pub fell-back : (axis : ℕ) → Mem axis (usedAxes (s .capabilities)) → Mem (ItemFallback axis (r .reason)) (ticked .laterItems)
+  pub capability : Capability
+  pub known : Named (order .action .capability) (ticked-book .capabilities) capability
+  pub steps : List Reply
+  pub cause : FailedBy (capability .verification) (order .action .parameters) steps (r .reason)
+  -- the receipt, then the trip
+  pub tripping : List Reply
+  pub replies : ticked .later ≡ steps ++ (Recorded ∷ tripping)
+  pub first : List Item
+  pub tripItems : List Item
+  pub items : ticked .laterItems ≡ first ++ (ItemRecord r ∷ tripItems)
+  pub recorded : Book
   pub book : Book
+  pub trip : Runs (trip (r .reason) (order .now) recorded (λ b. Done b (Submitted r))) tripping tripItems (Done book (Submitted r))
+  pub fell-back : (axis : ℕ) → Mem axis (usedAxes (s .capabilities)) → Mem (ItemFallback axis (r .reason)) tripItems
   pub left : phaseAfter s h ≡ Idle book
   pub state : book .state ≡ State.Faulted
 

@@ -18,27 +18,29 @@ use Rattle.model.specs.declared.Decision.the-variants as Decision
 use Rattle.model.specs.declared.Lease.{Lease}
 use Rattle.model.specs.declared.LeaseRequest.{LeaseRequest}
 use Rattle.model.specs.declared.Observation.{Observation}
+use Rattle.model.specs.declared.Reason.{Reason}
 use Rattle.model.specs.declared.Reason.the-variants as Reason
 use Rattle.model.specs.declared.Receipt.{Receipt}
 use Rattle.model.specs.declared.Renewal.{Renewal}
 use Rattle.model.specs.declared.Replay.{Replay}
 use Rattle.model.specs.declared.RuntimeState.the-variants as State
 use Rattle.model.specs.declared.Submission.{Submission}
+use Rattle.model.specs.declared.Verification.{Verification}
 use Rattle.rules.specs.Lists.{Mem, Distinct}
 use Rattle.rules.specs.Book.{Book, leaseAt}
 use Rattle.rules.specs.Receipts.{top}
-use Rattle.rules.specs.Interaction.{Answer, Leased, Submitted}
+use Rattle.rules.specs.Interaction.{Answer, Leased, Submitted, Done}
 use Rattle.rules.specs.Admissible.{Admissible}
-use Rattle.rules.specs.Rules.{usedAxes, replayCapacity}
+use Rattle.rules.specs.Rules.{usedAxes, replayCapacity, trip}
 use Rattle.rules.specs.Protocol.{Call, Acquire, Renew, Submit, Reply, Observed, Executed, Recorded, FellBack, Reading, Calls, Replies, Reads, Item, ItemObserve, ItemExecute, ItemFallback, ItemRecord, Output, Started, StartRefused, Hands, Answers, Reminds, Refuses, Shows, NoRuntime, Start, Idle, bookIn, read}
 use Rattle.rules.specs.Lives.{Life}
 use Rattle.rules.specs.Log.{History, phaseAfter, outputAfter, Took, Replied, Handed, Ended, Log, handed, tookEffect, arrived, logged, logOf, opened, bookBefore, callOf, Exchange, withReply, withItem, current, startItems, startReplies, executedIn, nextNumber, receiptsKept, observing, Admitted, admissions, entryOf, highest, isGrant, Tenancy, live}
 use Rattle.rules.specs.Epoch.{seenRaise, flagsOf, bumps}
 use Rattle.rules.specs.SoundStart.{Named, SoundStart}
 use Rattle.rules.specs.Turns.{awaited, fits, Proceeds}
-use Rattle.rules.specs.AnswerFacts.{answeredReceipts, Falling, AnswersTo, OfOrder, Verified, AllFour, Asked}
+use Rattle.rules.specs.AnswerFacts.{answeredReceipts, Falling, AnswersTo, OfOrder, Verified, AllFour, FailedBy, unobserved, unexecuted, unobserved-after, unverified, Asked}
 use Rattle.rules.specs.Grantable.{Grantable, Renewable}
-use Rattle.rules.specs.Way.{Ticked}
+use Rattle.rules.specs.Way.{Runs, Ticked}
 use Rattle.rules.specs.Claim.{Between, nameOf, OpensSo, AreUsed, Claim}
 use Rattle.rules.specs.Claim as Claimed
 use Rattle.rules.specs.LiveLease.{GrantedTo, live-means}
@@ -220,6 +222,18 @@ holds {l = l} k =
     }
 
 -- demand 3 -----------------------------------------------------------------------------------------------------------------
+
+-- why an order failed ------------------------------------------------------------------------------------------------
+
+-- 16 where the driver failed, 17 where what was observed is not what was ordered
+pub failed-by : {v : Verification} {ps : List ℤ} {steps : List Reply} {reason : Reason} → FailedBy v ps steps reason
+    → ((reason ≡ Reason.Driver) × (Mem (Observed none) steps ⊎ Mem (Executed false) steps))
+    ⊎ ((reason ≡ Reason.Verification) × (first : Observation) × (second : Observation)
+    × (steps ≡ Observed (some first) ∷ Executed true ∷ Observed (some second) ∷ []) × (Verified v ps second → ⊥))
+failed-by unobserved = inl (refl, inl (inl refl))
+failed-by unexecuted = inl (refl, inr (inr (inl refl)))
+failed-by unobserved-after = inl (refl, inl (inr (inr (inl refl))))
+failed-by (unverified n) = inr (refl, _, _, refl, n)
 
 -- what was asked for, of a call that is known --------------------------------------------------------------------------
 
@@ -450,7 +464,8 @@ module _ (lives : List Life) (claim : Claim lives) where
   -- an order is answered with its own receipt, handed out in its own call; it is a rejection unless the order was admitted
   pub order-told : (s : Start) (h : History) (x : Exchange) (r : Receipt) → outputAfter s h ≡ Answers (Submitted r) → current (logOf s h) ≡ some x
       → (o : Submission) × (x .call ≡ Submit o) × OfOrder o r × Mem (ItemRecord r) (x .items)
-      × ((((axis : ℕ) × Mem (ItemObserve axis) (x .items)) × (r .decision ≢ Decision.Rejected)) ⊎ (r .decision ≡ Decision.Rejected))
+      × ((((axis : ℕ) × Mem (ItemObserve axis) (x .items)) × (r .decision ≢ Decision.Rejected))
+      ⊎ (((axis : ℕ) → Mem (ItemObserve axis) (x .items) → ⊥) × (r .decision ≡ Decision.Rejected)))
   order-told s h x r e q = let k = claim .answers s h .order x r e q in (k .order, k .call, k .own, k .handed, k .admitted)
 
   -- 01: "observe, execute, observe, verify. Executed needs all four."
@@ -466,22 +481,47 @@ module _ (lives : List Life) (claim : Claim lives) where
 
   -- 01: "Otherwise Failed (16 or 17), receipt, trip."
   pub otherwise-failed : (s : Start) (h : History) (x : Exchange) (b : Book) (r : Receipt) → outputAfter s h ≡ Answers (Submitted r)
-      → current (logOf s h) ≡ some x → bookBefore s h ≡ some b → r .decision ≢ Decision.Rejected → (AllFour x b → ⊥)
-      → (r .decision ≡ Decision.Failed) × ((r .reason ≡ Reason.Driver) ⊎ (r .reason ≡ Reason.Verification))
-      × Mem (ItemRecord r) (x .items)
+      → current (logOf s h) ≡ some x → bookBefore s h ≡ some b → (axis : ℕ) → Mem (ItemObserve axis) (x .items) → (AllFour x b → ⊥)
+      → (r .decision ≡ Decision.Failed)
       × (o : Submission) × (x .call ≡ Submit o) × (ticked : Book) × (t : Ticked (o .now) b x ticked)
-      × ((axis : ℕ) → Mem axis (usedAxes (s .capabilities)) → Mem (ItemFallback axis (r .reason)) (t .laterItems))
-      × (after : Book) × (phaseAfter s h ≡ Idle after) × (after .state ≡ State.Faulted)
-  otherwise-failed s h x b r e q f not-rejected not-all =
+      × (c : Capability) × Named (o .action .capability) (ticked .capabilities) c
+      × (steps : List Reply) × FailedBy (c .verification) (o .action .parameters) steps (r .reason)
+      × (tripping : List Reply) × (t .later ≡ steps ++ (Recorded ∷ tripping))
+      × (first : List Item) × (items : List Item) × (t .laterItems ≡ first ++ (ItemRecord r ∷ items))
+      × (recorded : Book) × (after : Book)
+      × Runs (trip (r .reason) (o .now) recorded (λ b. Done b (Submitted r))) tripping items (Done after (Submitted r))
+      × ((axis : ℕ) → Mem axis (usedAxes (s .capabilities)) → Mem (ItemFallback axis (r .reason)) items)
+      × (phaseAfter s h ≡ Idle after) × (after .state ≡ State.Faulted)
+  otherwise-failed s h x b r e q f axis m not-all =
       let a = claim .answers s h in
       let told = a .order x r e q in
       let failed : r .decision ≡ Decision.Failed = elim (told .own .decision) [
         | inl d ↦ absurd (not-all (a .executed x b r e q f .0 d))
-        | inr (inl d) ↦ absurd (not-rejected d)
+        | inr (inl d) ↦ elim (told .admitted) [ inl k ↦ absurd (k .1 d) | inr k ↦ absurd (k .0 axis m) ]
         | inr (inr d) ↦ d
       ] in
-      let k = a .failed x b r e q f failed in
-      (failed, k .reason, told .handed, k .order, k .call, k .ticked-book, k .ticked, k .fell-back, k .book, k .left, k .state)
+      let k = a .failed x b r e q f failed in (
+        failed,
+        k .order,
+        k .call,
+        k .ticked-book,
+        k .ticked,
+        k .capability,
+        k .known,
+        k .steps,
+        k .cause,
+        k .tripping,
+        k .replies,
+        k .first,
+        k .tripItems,
+        k .items,
+        k .recorded,
+        k .book,
+        k .trip,
+        k .fell-back,
+        k .left,
+        k .state,
+      )
 
   -- and where all four succeed it is Executed
   pub all-four-executed : (s : Start) (h : History) (x : Exchange) (b : Book) (r : Receipt) → outputAfter s h ≡ Answers (Submitted r)
