@@ -1,6 +1,6 @@
 -- The numbers of the receipts that answer orders rise: each is that of a record handed out in its own call, and those count up. Assumes nothing.
 use Prim.Native.Nat.{ℕ, _+_, _<_, _≤_}
-use mathlib.Core.Bool.{Bool, true, false, cond, _&&_, false≢true, true≢false}
+use mathlib.Core.Bool.{Bool, true, false, cond, false≢true, true≢false}
 use mathlib.Core.List.{List, [], _∷_, _++_, append-nil}
 use mathlib.Core.Logic.{_⊎_, inl, inr, ⊎-elim}
 use mathlib.Core.Option.{Option, some, none}
@@ -162,10 +162,15 @@ start-on s (axis ∷ axes) good l = tt
 start-on s [] true l = tt
 start-on s [] false l = tt
 
+tried-on : (own : Start) (axes : List ℕ) (good ok : Bool) (l : Log)
+    → Standing (logged (Replies (FellBack ok)) (startFrom own axes good .output) l) (startFrom own axes good .phase)
+unfolding logged arrived
+tried-on own axes good ok l = rw (start-effective own axes good) (start-on own axes good (Replied (FellBack ok) ∷ l))
+
 standing-step : (l : Log) (p : Phase) (i : Input) → Step p i → Standing l p → Standing (logged i (react p i .output) l) (react p i .phase)
 unfolding react apply effect called replied startReplied logged arrived
 standing-step l p i (stays st) o = rw (st .log l, st .phase) o
-standing-step l p i (tries own axis rest good ok) o = rw (start-effective own rest (good && ok)) (start-on own rest (good && ok) (Replied (FellBack ok) ∷ l))
+standing-step l p i (tries own axis rest good ok) o = tried-on own _ _ ok l
 standing-step l p i (begins b c) o = rw (effective (begin c b), handed-event (begin c b)) (stands-on (begin c b) (Took c ∷ l) tt)
 standing-step l p i (answers {r = r} t u a) o = rw (a .log l, a .reaction) (stands-on u (Replied r ∷ l) (waits-open l t p (a .stands) o))
 
@@ -208,7 +213,7 @@ ends-open : (l : Log) (p : Phase) (i : Input) → Step p i → Standing l p → 
     → Open (arrived i (react p i .output) ++ l)
 unfolding react apply effect called replied startReplied arrived tookEffect
 ends-open l p i (stays st) o a e = absurd (true≢false (sym (ap tookEffect e) ∙ stays-silent p i st))
-ends-open l p i (tries own axis rest good ok) o a e = absurd (no-answer own rest (good && ok) a e)
+ends-open l p i (tries own axis rest good ok) o a e = absurd (no-answer own _ _ a e)
 ends-open l p i (begins b c) o a e = rw (effective (begin c b)) tt
 ends-open l p i (answers {r = r} t u x) o a e = rw (x .reaction, effective u) (waits-open l t p (x .stands) o)
 

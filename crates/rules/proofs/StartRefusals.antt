@@ -48,7 +48,7 @@ stays-silent p (Reads q) st = reads-nothing q (bookIn p)
 silent-stays : (p : Phase) (i : Input) → Step p i → tookEffect (react p i .output) ≡ false → Stays p i
 unfolding react apply effect called replied startReplied
 silent-stays p i (stays st) e = st
-silent-stays p i (tries own axis rest good ok) e = absurd (true≢false (sym (start-effective own rest (good && ok)) ∙ e))
+silent-stays p i (tries own axis rest good ok) e = absurd (true≢false (sym (start-effective own _ _) ∙ e))
 silent-stays p i (begins b c) e = absurd (true≢false (sym (effective (begin c b)) ∙ e))
 silent-stays p i (answers t u a) e = absurd (true≢false (sym (effective u) ∙ (rw (a .reaction) at e)))
 

@@ -1,6 +1,6 @@
 -- Who is heard: `Turns` of every history. Assumes nothing.
 use Prim.Native.Nat.{ℕ}
-use mathlib.Core.Bool.{Bool, true, false, _&&_, false≢true}
+use mathlib.Core.Bool.{Bool, true, false, false≢true}
 use mathlib.Core.List.{List, [], _∷_, _++_, append-nil}
 use mathlib.Core.Logic.{inl, inr}
 use mathlib.Core.Option.{Option, some, none, Option·none-ne-some, Option·some-ne-none, Option·some-injective}
@@ -38,12 +38,17 @@ goes-on s (axis ∷ rest) good l e = refl
 goes-on s [] true l e = e
 goes-on s [] false l e = e
 
+-- after a reply to a startup fallback
+tried : (own : Start) (axes : List ℕ) (good ok : Bool) (l : Log)
+    → awaited (logged (Replies (FellBack ok)) (startFrom own axes good .output) l) ≡ awaitedIn (startFrom own axes good .phase)
+unfolding logged arrived awaited
+tried own axes good ok l = rw (start-effective own axes good) (goes-on own axes good (Replied (FellBack ok) ∷ l) refl)
+
 stands-step : (l : Log) (p : Phase) (i : Input) → Step p i → awaited l ≡ awaitedIn p
     → awaited (logged i (react p i .output) l) ≡ awaitedIn (react p i .phase)
 unfolding react apply effect called replied startReplied logged arrived awaited
 stands-step l p i (stays st) e = rw (st .log l, st .phase) e
-stands-step l p i (tries own axis rest good ok) e =
-    rw (start-effective own rest (good && ok)) (goes-on own rest (good && ok) (Replied (FellBack ok) ∷ l) refl)
+stands-step l p i (tries own axis rest good ok) e = tried own _ _ ok l
 stands-step l p i (begins b c) e = rw (effective (begin c b), handed-event (begin c b)) (proceeds (begin c b) (Took c ∷ l))
 stands-step l p i (answers {r = r} t u a) e = rw (a .log l, a .reaction) (proceeds u (Replied r ∷ l))
 
@@ -143,7 +148,7 @@ heard-wait w r = rw (resumes w r) (go (resume w r))
 heard-start : (s : Start) (axis : ℕ) (rest : List ℕ) (good : Bool) (r : Reply)
     → Heard (fits (ItemFallback axis Startup) r) (ItemFallback axis Startup) (react (Starting s axis rest good) (Replies r) .output)
 unfolding react apply effect replied startReplied fits
-heard-start s axis rest good (FellBack ok) = start-effective s rest (good && ok)
+heard-start s axis rest good (FellBack ok) = start-effective s _ _
 heard-start s axis rest good (Observed o) = refl
 heard-start s axis rest good (Executed ok) = refl
 heard-start s axis rest good Recorded = refl
@@ -206,6 +211,11 @@ starts-on s (axis ∷ rest) good l e = calls-none _ l e
 starts-on s [] true l e = tt
 starts-on s [] false l e = calls-none _ l e
 
+tried-on : (own : Start) (axes : List ℕ) (good ok : Bool) (l : Log) → callOf l ≡ none
+    → BeforeCall (startFrom own axes good .phase) (callOf (logged (Replies (FellBack ok)) (startFrom own axes good .output) l))
+unfolding logged arrived callOf
+tried-on own axes good ok l e = rw (start-effective own axes good) (starts-on own axes good (Replied (FellBack ok) ∷ l) e)
+
 called-on : (t : Interaction) (c : Option Call) → BeforeCall (proceed t .phase) c
 unfolding proceed
 called-on (Done b a) c = tt
@@ -217,8 +227,7 @@ called-on (Record r b k) c = tt
 before-step : (l : Log) (p : Phase) (i : Input) → Step p i → BeforeCall p (callOf l) → BeforeCall (react p i .phase) (callOf (logged i (react p i .output) l))
 unfolding react apply effect called replied startReplied logged arrived callOf
 before-step l p i (stays st) h = rw (st .log l, st .phase) h
-before-step l p i (tries own axis rest good ok) h =
-    rw (start-effective own rest (good && ok)) (starts-on own rest (good && ok) (Replied (FellBack ok) ∷ l) h)
+before-step l p i (tries own axis rest good ok) h = tried-on own _ _ ok l h
 before-step l p i (begins b c) h = called-on (begin c b) (callOf (logged i (proceed (begin c b) .output) l))
 before-step l p i (answers t u a) h = rw (a .reaction) (called-on u (callOf (logged i (proceed u .output) l)))
 
