@@ -15,7 +15,7 @@ use Rattle.rules.specs.Protocol.{FellBack, Input, Calls, Replies, Reads,
 use Rattle.rules.specs.Log.{History, phaseAfter, outputAfter, Event, Took, Replied, Handed, Ended, Log, handed, tookEffect, arrived, logged, logOf, Exchange, withReply, withItem, current, counted, nextNumber}
 use Rattle.rules.specs.AnswerFacts.{answeredReceipts, Falling}
 use Rattle.rules.proofs.Counters.{bump-up, bump-below}
-use Rattle.rules.proofs.Steps.{Stands, atObserve, atExecute, atFallback, atRecord, eventAt, handed-event, effective, start-effective, Step, stays, tries, begins, answers, step}
+use Rattle.rules.proofs.Steps.{Stands, atObserve, atExecute, atFallback, atRecord, eventAt, handed-event, effective, after-try, Step, stays, tries, begins, answers, step}
 use Rattle.rules.proofs.StartRefusals.{stays-silent}
 use Rattle.rules.proofs.InHand.{itemsIn, reply-items, new-or-before}
 use Rattle.rules.proofs.Once.{records}
@@ -162,15 +162,10 @@ start-on s (axis ∷ axes) good l = tt
 start-on s [] true l = tt
 start-on s [] false l = tt
 
-tried-on : (own : Start) (axes : List ℕ) (good ok : Bool) (l : Log)
-    → Standing (logged (Replies (FellBack ok)) (startFrom own axes good .output) l) (startFrom own axes good .phase)
-unfolding logged arrived
-tried-on own axes good ok l = rw (start-effective own axes good) (start-on own axes good (Replied (FellBack ok) ∷ l))
-
 standing-step : (l : Log) (p : Phase) (i : Input) → Step p i → Standing l p → Standing (logged i (react p i .output) l) (react p i .phase)
 unfolding react apply effect called replied startReplied logged arrived
 standing-step l p i (stays st) o = rw (st .log l, st .phase) o
-standing-step l p i (tries own axis rest good ok) o = tried-on own _ _ ok l
+standing-step l p i (tries own axis rest good ok) o = after-try Standing own _ _ ok l (start-on own _ _ (Replied (FellBack ok) ∷ l))
 standing-step l p i (begins b c) o = rw (effective (begin c b), handed-event (begin c b)) (stands-on (begin c b) (Took c ∷ l) tt)
 standing-step l p i (answers {r = r} t u a) o = rw (a .log l, a .reaction) (stands-on u (Replied r ∷ l) (waits-open l t p (a .stands) o))
 

@@ -51,6 +51,13 @@ start-effective s (axis ∷ rest) good = refl
 start-effective s [] true = refl
 start-effective s [] false = refl
 
+-- what holds once a startup fallback's reply and what follows it are in the log
+pub after-try : (P : Log → Phase → Type 0) (s : Start) (axes : List ℕ) (good ok : Bool) (l : Log)
+    → P (handed (startFrom s axes good .output) ++ (Replied (FellBack ok) ∷ l)) (startFrom s axes good .phase)
+    → P (logged (Replies (FellBack ok)) (startFrom s axes good .output) l) (startFrom s axes good .phase)
+unfolding logged arrived
+after-try P s axes good ok l h = rw (start-effective s axes good) h
+
 -- the input leaves phase and log as they were
 pub record Stays (p : Phase) (i : Input) : Type 0 where
   pub phase : react p i .phase ≡ p

@@ -13,7 +13,7 @@ use Rattle.rules.specs.Rules.{usedAxes}
 use Rattle.rules.specs.Protocol.{Call, Reply, Observed, Executed, FellBack, Recorded, Reading, Input, Calls, Replies, Reads, Item, ItemFallback, Output, Started, StartRefused, Hands, Answers, Reminds, Refuses, Shows, NoRuntime, Start, Wait, OnObserve, OnExecute, OnFallback, OnRecord, Phase, Starting, Gone, Idle, Waiting, itemOf, bookIn, resume, resumed, begin, proceed, refusedStart, startFrom, startUnless, start, startReplied, called, replied, shown, effect, apply, react}
 use Rattle.rules.specs.Log.{History, phaseAfter, outputAfter, Event, Took, Replied, Log, logOf, handed, arrived, logged, tookEffect, callOf}
 use Rattle.rules.specs.Turns.{awaited, fits, Proceeds, Turns}
-use Rattle.rules.proofs.Steps.{eventAt, handed-event, effective, start-effective, Step, stays, tries, begins, answers, step}
+use Rattle.rules.proofs.Steps.{eventAt, handed-event, effective, start-effective, after-try, Step, stays, tries, begins, answers, step}
 
 abbrev pub awaitedIn : Phase → Option Item
 awaitedIn (Starting s axis rest good) = some (ItemFallback axis Startup)
@@ -38,17 +38,12 @@ goes-on s (axis ∷ rest) good l e = refl
 goes-on s [] true l e = e
 goes-on s [] false l e = e
 
--- after a reply to a startup fallback
-tried : (own : Start) (axes : List ℕ) (good ok : Bool) (l : Log)
-    → awaited (logged (Replies (FellBack ok)) (startFrom own axes good .output) l) ≡ awaitedIn (startFrom own axes good .phase)
-unfolding logged arrived awaited
-tried own axes good ok l = rw (start-effective own axes good) (goes-on own axes good (Replied (FellBack ok) ∷ l) refl)
-
 stands-step : (l : Log) (p : Phase) (i : Input) → Step p i → awaited l ≡ awaitedIn p
     → awaited (logged i (react p i .output) l) ≡ awaitedIn (react p i .phase)
 unfolding react apply effect called replied startReplied logged arrived awaited
 stands-step l p i (stays st) e = rw (st .log l, st .phase) e
-stands-step l p i (tries own axis rest good ok) e = tried own _ _ ok l
+stands-step l p i (tries own axis rest good ok) e =
+    after-try (λ l p. awaited l ≡ awaitedIn p) own _ _ ok l (goes-on own _ _ (Replied (FellBack ok) ∷ l) refl)
 stands-step l p i (begins b c) e = rw (effective (begin c b), handed-event (begin c b)) (proceeds (begin c b) (Took c ∷ l))
 stands-step l p i (answers {r = r} t u a) e = rw (a .log l, a .reaction) (proceeds u (Replied r ∷ l))
 
@@ -211,11 +206,6 @@ starts-on s (axis ∷ rest) good l e = calls-none _ l e
 starts-on s [] true l e = tt
 starts-on s [] false l e = calls-none _ l e
 
-tried-on : (own : Start) (axes : List ℕ) (good ok : Bool) (l : Log) → callOf l ≡ none
-    → BeforeCall (startFrom own axes good .phase) (callOf (logged (Replies (FellBack ok)) (startFrom own axes good .output) l))
-unfolding logged arrived callOf
-tried-on own axes good ok l e = rw (start-effective own axes good) (starts-on own axes good (Replied (FellBack ok) ∷ l) e)
-
 called-on : (t : Interaction) (c : Option Call) → BeforeCall (proceed t .phase) c
 unfolding proceed
 called-on (Done b a) c = tt
@@ -227,7 +217,8 @@ called-on (Record r b k) c = tt
 before-step : (l : Log) (p : Phase) (i : Input) → Step p i → BeforeCall p (callOf l) → BeforeCall (react p i .phase) (callOf (logged i (react p i .output) l))
 unfolding react apply effect called replied startReplied logged arrived callOf
 before-step l p i (stays st) h = rw (st .log l, st .phase) h
-before-step l p i (tries own axis rest good ok) h = tried-on own _ _ ok l h
+before-step l p i (tries own axis rest good ok) h =
+    after-try (λ l p. BeforeCall p (callOf l)) own _ _ ok l (starts-on own _ _ (Replied (FellBack ok) ∷ l) h)
 before-step l p i (begins b c) h = called-on (begin c b) (callOf (logged i (proceed (begin c b) .output) l))
 before-step l p i (answers t u a) h = rw (a .reaction) (called-on u (callOf (logged i (proceed u .output) l)))
 
