@@ -29,7 +29,7 @@ use Rattle.rules.specs.Protocol.{Call, Acquire, Renew, Reply, Item, Item
 use Rattle.rules.specs.Log.{History, phaseAfter, outputAfter, logOf, bookBefore, Exchange, current}
 use Rattle.rules.specs.Way.{recorded, Runs, then, Ticked}
 use Rattle.rules.specs.Grantable.{Grantable}
-use Rattle.rules.specs.AnswerFacts.{AnswersTo, acquires, renews, OfOrder, OrderAnswered, Asked, Asked.granted as asked-grant, Asked.renewed as asked-renewal, LeaseAnswered}
+use Rattle.rules.specs.AnswerFacts.{AnswersTo, acquires, renews, OfOrder, OrderAnswered, Asked, Asked.granted as asked-grant, Asked.renewed as asked-renewal, LeaseLeft, LeaseAnswered}
 use Rattle.rules.proofs.Admission.{none-fails}
 use Rattle.rules.proofs.Checks.{held}
 use Rattle.rules.proofs.Executed.{observed-not-rejected}
@@ -87,6 +87,11 @@ record Gave (axis : ℕ) (l : Lease) (reason : Reason) (b after : Book) (is : Li
   on : receipt .resource ≡ axis
   leases : after .leases ≡ b .leases
   capabilities : after .capabilities ≡ b .capabilities
+  active : after .active ≡ b .active
+  count : after .invalidCount ≡ b .invalidCount
+  stamp : after .stateAt ≡ b .stateAt
+  lastTick : after .lastTick ≡ b .lastTick
+  nextLease : after .nextLease ≡ b .nextLease
 
 gave : {rs : List Reply} {is : List Item} {after : Book} {answer : Lease} (axis : ℕ) (l : Lease) (reason : Reason) (now : ℕ) (b : Book)
     → Runs (leased axis l reason now b) rs is (Done after (Leased answer)) → (l ≡ answer) × Gave axis l reason b after is
@@ -105,6 +110,11 @@ gave {answer = answer} axis l reason now b (then (recorded {r = r}) w) =
         on = refl;
         leases = ap (λ (b : Book). b .leases) (sym (k .book));
         capabilities = ap (λ (b : Book). b .capabilities) (sym (k .book));
+        active = ap (λ (b : Book). b .active) (sym (k .book));
+        count = ap (λ (b : Book). b .invalidCount) (sym (k .book));
+        stamp = ap (λ (b : Book). b .stateAt) (sym (k .book));
+        lastTick = ap (λ (b : Book). b .lastTick) (sym (k .book));
+        nextLease = ap (λ (b : Book). b .nextLease) (sym (k .book));
       },
     )
 
@@ -117,10 +127,12 @@ record Given (c : Call) (now : ℕ) (b : Book) (l : Lease) (after : Book) (is : 
   lease : receipt .«lease_id» ≡ l .id
   owner : receipt .principal ≡ l .owner
   stands : leaseAt after (receipt .resource) ≡ some l
+  rest : LeaseLeft receipt l b after
 
 given : {c : Call} {now : ℕ} {b : Book} {is : List Item} {axis : ℕ} {l : Lease} {reason : Reason} {b′ after : Book}
-    (k : Gave axis l reason b′ after is) → Asked c now b (k .receipt) l → leaseAt b′ axis ≡ some l → Given c now b l after is
-given k asked stands =
+    (k : Gave axis l reason b′ after is) → Asked c now b (k .receipt) l → leaseAt b′ axis ≡ some l → LeaseLeft (k .receipt) l b after
+    → Given c now b l after is
+given k asked stands rest =
     record {
       receipt = k .receipt;
       asked = asked;
@@ -129,6 +141,7 @@ given k asked stands =
       lease = k .lease;
       owner = k .owner;
       stands = rw (k .on, k .leases) stands;
+      rest = rest;
     }
 
 -- ---- acquire
@@ -148,7 +161,15 @@ module _ (after : Book) (eight : length (after .leases) ≡ 8) (low : (axis : �
       let length-same = sym (length-set (b .leases) (q .resource) (some l)) ∙ ap length (sym (k .leases)) ∙ eight in
       subst (λ l. Given (Acquire q now) now b l after is) (g .0)
       (given k (asked-grant (grantable q now b e) (k .why) (k .on) refl refl refl refl refl refl refl refl)
-      (getD-set-same (b .leases) (q .resource) (some l) none (rw length-same inside)))
+      (getD-set-same (b .leases) (q .resource) (some l) none (rw length-same inside))
+      (record {
+        leases = rw (k .on) (k .leases);
+        active = k .active;
+        count = k .count;
+        stamp = k .stamp;
+        lastTick = k .lastTick;
+        nextLease = inl (k .why, k .nextLease);
+      }))
 
 -- ---- renew
 
@@ -165,7 +186,15 @@ given-extension {is = is} {after = after} (some axis) (some x) q b checks e f w 
     let same : h .lease ≡ x = Option·some-injective _ _ (sym (h .stands) ∙ f) in
     let asked = asked-renewal {q = q} {b = b} {r = k .receipt} {old = x} (rw (k .on) (renewable q b axis x checks e f)) (k .why) (rw same at (h .number)) (rw same at (h .own)) refl refl refl refl refl refl refl in
     subst (λ l. Given (Renew q) (q .now) b l after is) (g .0)
-    (given k asked (getD-set-same (b .leases) axis (some (extended q x)) none (within (b .leases) axis x f)))
+    (given k asked (getD-set-same (b .leases) axis (some (extended q x)) none (within (b .leases) axis x f))
+    (record {
+      leases = rw (k .on) (k .leases);
+      active = k .active;
+      count = k .count;
+      stamp = k .stamp;
+      lastTick = k .lastTick;
+      nextLease = inr (k .why, k .nextLease);
+    }))
 
 given-renewal : {rs : List Reply} {is : List Item} {l : Lease} {after : Book} (f : Option Reason) (q : Renewal) (b : Book)
     → firstFailing (renewChecks q b) ≡ f → Runs (renewed f q b) rs is (Done after (Leased l)) → Given (Renew q) (q .now) b l after is
@@ -197,6 +226,7 @@ module _ (s : Start) (h : History) (x : Exchange) (before : Book) (l : Lease) (a
         book = at .book;
         idle = at .idle;
         stands = k .stands;
+        rest = k .rest;
       }
 
   answered : (c : Call) → x .call ≡ c → AnswersTo c (Leased l) → Runs (begin c before) (x .replies) (x .items) (Done (at .book) (Leased l))

@@ -13,6 +13,8 @@ use lib.Signed.{leZ}
 use Rattle.model.specs.declared.Capability.{Capability}
 use Rattle.model.specs.declared.Decision.{Decision}
 use Rattle.model.specs.declared.Decision.the-variants as Decision
+use Rattle.model.specs.declared.ExecutionClass.{ExecutionClass}
+use Rattle.model.specs.declared.ExecutionClass.the-variants as Class
 use Rattle.model.specs.declared.Lease.{Lease}
 use Rattle.model.specs.declared.Observation.{Observation}
 use Rattle.model.specs.declared.Reason.{Reason}
@@ -25,17 +27,17 @@ use Rattle.model.specs.declared.Verification.{Verification}
 use Rattle.model.specs.declared.Verification.the-variants.{Parameters, State as StateIs}
 use Rattle.model.proofs.Tests.{and-both}
 use Rattle.rules.specs.Lists.{Mem}
-use Rattle.rules.specs.Book.{Book}
-use Rattle.rules.specs.With.{withLeases, withReplay, withReceipts, withNextReceipt, withState}
-use Rattle.rules.specs.Receipts.{numbered, orderReceipt, Progress, kept}
+use Rattle.rules.specs.Book.{Book, leaseAt}
+use Rattle.rules.specs.With.{withLeases, withActive, withReplay, withReceipts, withNextReceipt, withState, withInvalidCount}
+use Rattle.rules.specs.Receipts.{numbered, axisOr255, orderReceipt, Progress, kept}
 use Rattle.rules.specs.Interaction.{Returned, Submitted, Interaction, Done, Observe}
-use Rattle.rules.specs.Admission.{isEstopped, firstFailing, admission, orderCapability, Admits, Rejects, verdict, validate}
-use Rattle.rules.specs.Rules.{usedAxes, recordReceipt, tripped, trip, reject, fail, complete, sameParameters, verified, verify, dispatch, streamEnd, consumed, admit, tick, submit}
-use Rattle.rules.specs.Protocol.{Call, Submit, Reply, Observed, Executed, Recorded, Item, ItemObserve, ItemFallback, ItemRecord, Answers, Start, bookIn, begin}
+use Rattle.rules.specs.Admission.{isEstopped, firstFailing, admission, orderCapability, Admits, Rejects, verdict, validate, validUntil}
+use Rattle.rules.specs.Rules.{usedAxes, recordReceipt, tripped, trip, reject, fail, complete, sameParameters, verified, verify, dispatch, streamEnd, consumed, admit, tick, submit, withSequence, activeUntil}
+use Rattle.rules.specs.Protocol.{Call, Submit, Reply, Observed, Executed, Recorded, Item, ItemObserve, ItemFallback, ItemRecord, Answers, Start, bookIn, begin, Idle}
 use Rattle.rules.specs.Log.{History, phaseAfter, outputAfter, logOf, bookBefore, Exchange, current}
 use Rattle.rules.specs.Admissible.{Admissible}
 use Rattle.rules.specs.Way.{observed, executed, recorded, Runs, then, Ticked}
-use Rattle.rules.specs.AnswerFacts.{Verified, AllFour, FailedBy, unobserved, unexecuted, unobserved-after, unverified, FailedSo}
+use Rattle.rules.specs.AnswerFacts.{Verified, AllFour, ActiveSo, stream, discrete, control, Completed, FailedBy, unobserved, unexecuted, unobserved-after, unverified, FailedSo}
 use Rattle.rules.proofs.Trees.{over, at-end}
 use Rattle.rules.proofs.Records.{with-named}
 use Rattle.rules.proofs.Admission.{admitted-exactly}
@@ -209,27 +211,70 @@ came : {rs : List Reply} {is : List Item} {after : Book} {r : Receipt} (c : Capa
 unfolding admit
 came c l o b (then (observed {o = seen}) w) = came-later c o (streamEnd l o) (consumed c l o b) _ (came-dispatch c o (streamEnd l o) (consumed c l o b) seen w)
 
--- where all four succeed it is Executed
-module _ (c : Capability) (o : Submission) (end : ℕ) (b : Book) (first second : Observation)
+-- where all four succeed it is Executed, and completed
+active-so : (c : Capability) (o : Submission) (l : Lease) (class : ExecutionClass) → ActiveSo c o l class (activeUntil c class (streamEnd l o))
+unfolding activeUntil streamEnd validUntil
+active-so c o l Class.Stream = stream refl refl
+active-so c o l Class.Discrete = discrete refl refl
+active-so c o l Class.Control = control
+
+module _ (c : Capability) (l : Lease) (o : Submission) (b : Book) (held : leaseAt b (c .resource) ≡ some l) (first second : Observation)
     (good : verified (c .verification) (o .action .parameters) second ≡ true) where
-  completes-verify : {rs : List Reply} {is : List Item} {after : Book} {r : Receipt} (before : ℕ)
-      → Runs (Observe (c .resource) b (verify c end before o b)) (Observed (some second) ∷ rs) is (Done after (Submitted r))
-      → r .decision ≡ Decision.Executed
+  -- what it says and leaves
+  abbrev Ends : Book → Receipt → Type 0
+  Ends after r = (r .decision ≡ Decision.Executed) × Completed c o first second b after r
+
+  completing : {rs : List Reply} {is : List Item} {after : Book} {r : Receipt}
+      → Runs (complete c (streamEnd l o)
+      (record { dispatched = true; preState = first .state; executedAt = o .now; observedValid = true; observed = second .parameters; postState = second .state })
+      o (consumed c l o b)) rs is (Done after (Submitted r)) → Ends after r
+  unfolding complete recordReceipt numbered orderReceipt axisOr255 consumed withSequence kept withNextReceipt withReceipts withReplay withLeases withActive
+      withInvalidCount
+  completing (then recorded w) =
+      let k = at-end w in
+      let same = submitted-same (k .answer) in (
+        ap (λ (x : Receipt). x .decision) (sym same),
+        record {
+          reason = ap (λ (x : Receipt). x .reason) (sym same);
+          resource = ap (λ (x : Receipt). x .resource) (sym same);
+          dispatched = ap (λ (x : Receipt). x .dispatched) (sym same);
+          executed-at = ap (λ (x : Receipt). x .«executed_at») (sym same);
+          pre = ap (λ (x : Receipt). x .«pre_state») (sym same);
+          seen = ap (λ (x : Receipt). x .«observed_valid») (sym same);
+          observed = ap (λ (x : Receipt). x .observed) (sym same);
+          post = ap (λ (x : Receipt). x .«post_state») (sym same);
+          old = l;
+          held = held;
+          new = withSequence (o .action .sequence) l;
+          sequenced =
+              record { last = refl; id = refl; owner = refl; resource = refl; capabilities = refl; limits = refl; expires = refl; renewal = refl };
+          leases = ap (λ (x : Book). x .leases) (sym (k .book));
+          order = activeUntil c (c .class) (streamEnd l o);
+          activeSo = active-so c o l (c .class);
+          active = ap (λ (x : Book). x .active) (sym (k .book));
+          count = ap (λ (x : Book). x .invalidCount) (sym (k .book));
+          stamp = ap (λ (x : Book). x .stateAt) (sym (k .book));
+          lastTick = ap (λ (x : Book). x .lastTick) (sym (k .book));
+          nextLease = ap (λ (x : Book). x .nextLease) (sym (k .book));
+        },
+      )
+
+  completes-verify : {rs : List Reply} {is : List Item} {after : Book} {r : Receipt}
+      → Runs (Observe (c .resource) (consumed c l o b) (verify c (streamEnd l o) (first .state) o (consumed c l o b))) (Observed (some second) ∷ rs) is
+      (Done after (Submitted r)) → Ends after r
   unfolding verify
-  completes-verify before (then observed w) = completed c end _ o b (rw good at w) .1
+  completes-verify (then observed w) = completing (rw good at w)
 
   completes-dispatch : {rs : List Reply} {is : List Item} {after : Book} {r : Receipt}
-      → Runs (dispatch c end o b (some first)) (Executed true ∷ Observed (some second) ∷ rs) is (Done after (Submitted r))
-      → r .decision ≡ Decision.Executed
+      → Runs (dispatch c (streamEnd l o) o (consumed c l o b) (some first)) (Executed true ∷ Observed (some second) ∷ rs) is (Done after (Submitted r))
+      → Ends after r
   unfolding dispatch
-  completes-dispatch (then executed w) = completes-verify _ w
+  completes-dispatch (then executed w) = completes-verify w
 
-completes : {rs : List Reply} {is : List Item} {after : Book} {r : Receipt} (c : Capability) (l : Lease) (o : Submission) (b : Book)
-    (first second : Observation) → verified (c .verification) (o .action .parameters) second ≡ true
-    → Runs (admit (Admits c l) o b) (Observed (some first) ∷ Executed true ∷ Observed (some second) ∷ rs) is (Done after (Submitted r))
-    → r .decision ≡ Decision.Executed
-unfolding admit
-completes c l o b first second good (then observed w) = completes-dispatch c o (streamEnd l o) (consumed c l o b) first second good w
+  completes : {rs : List Reply} {is : List Item} {after : Book} {r : Receipt}
+      → Runs (admit (Admits c l) o b) (Observed (some first) ∷ Executed true ∷ Observed (some second) ∷ rs) is (Done after (Submitted r)) → Ends after r
+  unfolding admit
+  completes (then observed w) = completes-dispatch w
 
 -- a rejected order has no observation, and says Rejected
 rejects-so : {rs : List Reply} {is : List Item} {after : Book} {r : Receipt} (reason : Reason) (o : Submission) (b : Book)
@@ -315,9 +360,12 @@ module _ (s : Start) (h : History) (x : Exchange) (b : Book) (r : Receipt) (out 
       → (is : List Item) × Runs (admit (validate (p .order) (p .book)) (p .order) (p .book)) (p .ticked .later) is (Done (at .book) (Submitted r))
   after-tick p = past-tick (x .call) (p .order) b (p .call) (p .ticked .replies) (p .ticked .run) (at .run)
 
-  is-executed : AllFour x b → r .decision ≡ Decision.Executed
+  abbrev EndOf : AllFour x b → Capability → Type 0
+  EndOf p c = (r .decision ≡ Decision.Executed) × Completed c (p .order) (p .first) (p .second) (p .book) (at .book) r
+
+  all-four-end : (p : AllFour x b) → EndOf p (p .capability)
   unfolding orderCapability
-  is-executed p = go (judged (p .order) (p .book))
+  all-four-end p = go (judged (p .order) (p .book))
     where
       w : Runs (admit (validate (p .order) (p .book)) (p .order) (p .book))
           (Observed (some (p .first)) ∷ Executed true ∷ Observed (some (p .second)) ∷ Recorded ∷ []) (after-tick p .0) (Done (at .book) (Submitted r))
@@ -325,16 +373,21 @@ module _ (s : Start) (h : History) (x : Exchange) (b : Book) (r : Receipt) (out 
           subst (λ (rs : List Reply). Runs (admit (validate (p .order) (p .book)) (p .order) (p .book)) rs (after-tick p .0) (Done (at .book) (Submitted r)))
           (p .replies) (after-tick p .1)
 
-      go : Judged (p .order) (p .book) → r .decision ≡ Decision.Executed
+      go : Judged (p .order) (p .book) → EndOf p (p .capability)
       go (admitted a) =
           let same : p .capability ≡ a .capability = Option·some-injective _ _ (sym (with-named (p .known)) ∙ with-named (a .known)) in
           let good = subst (λ (c : Capability). verified (c .verification) (p .order .action .parameters) (p .second) ≡ true) same
           (means-verified _ _ _ (p .verified)) in
-          completes (a .capability) (a .lease) (p .order) (p .book) (p .first) (p .second) good (rw (admits (p .order) (p .book) a) at w)
+          subst (EndOf p) (sym same)
+          (completes (a .capability) (a .lease) (p .order) (p .book) (a .leased) (p .first) (p .second) good (rw (admits (p .order) (p .book) a) at w))
       go (refused reason q) = absurd (nothing-seen reason (p .order) (p .book) _ (rw q at w))
 
   pub executed-exactly : (r .decision ≡ Decision.Executed) ↔ AllFour x b
-  executed-exactly = (four, is-executed)
+  executed-exactly = (four, λ p. all-four-end p .0)
+
+  pub completed-so : (p : AllFour x b)
+      → (after : Book) × (phaseAfter s h ≡ Idle after) × Completed (p .capability) (p .order) (p .first) (p .second) (p .book) after r
+  completed-so p = (at .book, at .idle, all-four-end p .1)
 
   -- a failure trips, and leaves Faulted
   pub failed-so : r .decision ≡ Decision.Failed → FailedSo s h x b r

@@ -25,6 +25,7 @@ answer-facts s h =
       kind = Answered.kind-answered s h;
       order = Answered.order-answered s h;
       executed = λ x b r out e f. Executed.executed-exactly s h x b r out e f;
+      completed = λ x b r out e f. Executed.completed-so s h x b r out e f;
       failed = λ x b r out e f. Executed.failed-so s h x b r out e f;
       lease = Answered.lease-answered s h;
       grants = Answered.lease-granted s h;

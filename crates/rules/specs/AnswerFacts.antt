@@ -1,15 +1,19 @@
 -- What an answer says is what was handed out: each call has its own kind of answer; an order is answered with its receipt, a grant or a
 -- renewal with the lease that stands.
-use Prim.Native.Nat.{ℕ, _+_, _<_}
+use Prim.Native.Nat.{ℕ, _+_, _<_, min}
 use mathlib.Core.Bool.{Bool, true, false}
 use mathlib.Core.List.{List, [], _∷_, _++_}
 use mathlib.Core.Logic.{_⊎_, _≢_, _↔_}
-use mathlib.Core.Option.{some, none}
+use mathlib.Core.Option.{Option, some, none}
 use mathlib.Core.Path.{_≡_}
 use lib.Bits.{bitAnd}
 use lib.IntN.{ℤ}
+use lib.ListN.{set}
+use Rattle.model.specs.declared.Active.{Active}
 use Rattle.model.specs.declared.Capability.{Capability}
 use Rattle.model.specs.declared.Decision.the-variants as Decision
+use Rattle.model.specs.declared.ExecutionClass.{ExecutionClass}
+use Rattle.model.specs.declared.ExecutionClass.the-variants as Class
 use Rattle.model.specs.declared.Lease.{Lease}
 use Rattle.model.specs.declared.LeaseRequest.{LeaseRequest}
 use Rattle.model.specs.declared.Observation.{Observation}
@@ -23,7 +27,7 @@ use Rattle.model.specs.declared.Verification.{Verification}
 use Rattle.model.specs.declared.Verification.the-variants.{Parameters, State as StateIs}
 use Rattle.rules.specs.Lists.{Mem}
 use Rattle.rules.specs.Book.{Book, leaseAt}
-use Rattle.rules.specs.Receipts.{top}
+use Rattle.rules.specs.Receipts.{top, bump}
 use Rattle.rules.specs.Interaction.{Answer, Returned, Polled, Succeeded, Leased, Refused, Submitted, Done}
 use Rattle.rules.specs.Grantable.{Grantable, Renewable}
 use Rattle.rules.specs.Rules.{usedAxes, trip}
@@ -106,6 +110,48 @@ pub record AllFour (x : Exchange) (before : Book) : Type 0 where
   pub replies : ticked .later ≡ Observed (some first) ∷ Executed true ∷ Observed (some second) ∷ Recorded ∷ []
   pub verified : Verified (capability .verification) (order .action .parameters) second
 
+-- an order changes the last sequence of its lease, and nothing else of it
+pub record Sequenced (sequence : ℕ) (old new : Lease) : Type 0 where
+  pub last : new .«last_sequence» ≡ sequence
+  pub id : new .id ≡ old .id
+  pub owner : new .owner ≡ old .owner
+  pub resource : new .resource ≡ old .resource
+  pub capabilities : new .capabilities ≡ old .capabilities
+  pub limits : new .limits ≡ old .limits
+  pub expires : new .«expires_at» ≡ old .«expires_at»
+  pub renewal : new .«last_renewal» ≡ old .«last_renewal»
+
+-- 01: "A Stream is active until the smaller of validity end and lease expiry, both as they were at admission, a Discrete order until its
+-- lease ends; Control clears."
+pub data ActiveSo (c : Capability) (o : Submission) (l : Lease) : ExecutionClass → Option Active → Type 0 where
+  stream : {a : Active} → a .capability ≡ c → a .«expires_at» ≡ min (o .«received_at» + o .action .«valid_for_ms») (l .«expires_at»)
+      → ActiveSo c o l Class.Stream (some a)
+  discrete : {a : Active} → a .capability ≡ c → a .«expires_at» ≡ top → ActiveSo c o l Class.Discrete (some a)
+  control : ActiveSo c o l Class.Control none
+
+-- what an Executed order reports, and what it leaves of the book that its tick left; the rest of that is in BookFacts and StateFacts
+pub record Completed (c : Capability) (o : Submission) (first second : Observation) (before after : Book) (r : Receipt) : Type 0 where
+  pub reason : r .reason ≡ Reason.Ok
+  pub resource : r .resource ≡ c .resource
+  pub dispatched : r .dispatched ≡ true
+  pub executed-at : r .«executed_at» ≡ o .now
+  pub pre : r .«pre_state» ≡ first .state
+  pub seen : r .«observed_valid» ≡ true
+  pub observed : r .observed ≡ second .parameters
+  pub post : r .«post_state» ≡ second .state
+  pub old : Lease
+  pub held : leaseAt before (c .resource) ≡ some old
+  pub new : Lease
+  pub sequenced : Sequenced (o .action .sequence) old new
+  pub leases : after .leases ≡ set (before .leases) (c .resource) (some new)
+  pub order : Option Active
+  pub activeSo : ActiveSo c o old (c .class) order
+  pub active : after .active ≡ set (before .active) (c .resource) order
+  pub count : after .invalidCount ≡ 0
+  pub stamp : after .stateAt ≡ before .stateAt
+  pub lastTick : after .lastTick ≡ before .lastTick
+  pub nextLease : after .nextLease ≡ before .nextLease
+
 -- which of the four failed, by the replies up to the receipt's: 16 where the driver did, 17 where the verification did
 pub data FailedBy (v : Verification) (ps : List ℤ) : List Reply → Reason → Type 0 where
   unobserved : FailedBy v ps (Observed none ∷ []) Reason.Driver
@@ -148,6 +194,17 @@ pub data Asked : Call → ℕ → Book → Receipt → Lease → Type 0 where
       → l .«expires_at» ≡ q .now + q .«duration_ms» → l .id ≡ old .id → l .resource ≡ old .resource → l .capabilities ≡ old .capabilities
       → l .limits ≡ old .limits → l .«last_sequence» ≡ old .«last_sequence» → Asked (Renew q) (q .now) b r l
 
+-- a grant or a renewal changes the lease of its axis, a grant the next number too; the rest is in BookFacts and StateFacts
+pub record LeaseLeft (r : Receipt) (l : Lease) (before after : Book) : Type 0 where
+  pub leases : after .leases ≡ set (before .leases) (r .resource) (some l)
+  pub active : after .active ≡ before .active
+  pub count : after .invalidCount ≡ before .invalidCount
+  pub stamp : after .stateAt ≡ before .stateAt
+  pub lastTick : after .lastTick ≡ before .lastTick
+  pub nextLease :
+      ((r .reason ≡ Reason.LeaseGranted) × (after .nextLease ≡ bump (before .nextLease)))
+      ⊎ ((r .reason ≡ Reason.LeaseRenewed) × (after .nextLease ≡ before .nextLease))
+
 -- its receipt was handed out in the call that it answers, after the tick, and it stands on the axis that the receipt names
 pub record LeaseAnswered (s : Start) (h : History) (x : Exchange) (before : Book) (l : Lease) : Type 0 where
   pub now : ℕ
@@ -162,6 +219,7 @@ pub record LeaseAnswered (s : Start) (h : History) (x : Exchange) (before : Book
   pub book : Book
   pub idle : phaseAfter s h ≡ Idle book
   pub stands : leaseAt book (receipt .resource) ≡ some l
+  pub rest : LeaseLeft receipt l ticked-book book
 
 -- after every history of every start
 pub record AnswerFacts (s : Start) (h : History) : Type 0 where
@@ -169,6 +227,9 @@ pub record AnswerFacts (s : Start) (h : History) : Type 0 where
   pub order : (x : Exchange) (r : Receipt) → outputAfter s h ≡ Answers (Submitted r) → current (logOf s h) ≡ some x → OrderAnswered x r
   pub executed : (x : Exchange) (b : Book) (r : Receipt) → outputAfter s h ≡ Answers (Submitted r) → current (logOf s h) ≡ some x
       → bookBefore s h ≡ some b → (r .decision ≡ Decision.Executed) ↔ AllFour x b
+  pub completed : (x : Exchange) (b : Book) (r : Receipt) → outputAfter s h ≡ Answers (Submitted r) → current (logOf s h) ≡ some x
+      → bookBefore s h ≡ some b → (p : AllFour x b)
+      → (after : Book) × (phaseAfter s h ≡ Idle after) × Completed (p .capability) (p .order) (p .first) (p .second) (p .book) after r
   pub failed : (x : Exchange) (b : Book) (r : Receipt) → outputAfter s h ≡ Answers (Submitted r) → current (logOf s h) ≡ some x
       → bookBefore s h ≡ some b → r .decision ≡ Decision.Failed → FailedSo s h x b r
   pub lease : (x : Exchange) (b : Book) (l : Lease) → outputAfter s h ≡ Answers (Leased l) → current (logOf s h) ≡ some x

@@ -10,11 +10,14 @@ use native.Mathlib.Omega.{arith}
 use lib.Bits.{bitAnd}
 use lib.IntN.{ℤ}
 use lib.Signed.{_≤ℤ_}
-use lib.ListN.{take, getElem?}
+use lib.ListN.{take, getElem?, set}
 use Rattle.model.specs.declared.Action.{Action}
+use Rattle.model.specs.declared.Active.{Active}
 use Rattle.model.specs.declared.Bounds.{Bounds}
 use Rattle.model.specs.declared.Capability.{Capability}
 use Rattle.model.specs.declared.Decision.the-variants as Decision
+use Rattle.model.specs.declared.ExecutionClass.{ExecutionClass}
+use Rattle.model.specs.declared.ExecutionClass.the-variants as Class
 use Rattle.model.specs.declared.Lease.{Lease}
 use Rattle.model.specs.declared.LeaseRequest.{LeaseRequest}
 use Rattle.model.specs.declared.Observation.{Observation}
@@ -28,7 +31,7 @@ use Rattle.model.specs.declared.Submission.{Submission}
 use Rattle.model.specs.declared.Verification.{Verification}
 use Rattle.rules.specs.Lists.{Mem, Distinct}
 use Rattle.rules.specs.Book.{Book, leaseAt}
-use Rattle.rules.specs.Receipts.{top}
+use Rattle.rules.specs.Receipts.{top, bump}
 use Rattle.rules.specs.Interaction.{Answer, Leased, Submitted, Done}
 use Rattle.rules.specs.Admissible.{Admissible}
 use Rattle.rules.specs.Rules.{usedAxes, replayCapacity, trip}
@@ -38,7 +41,7 @@ use Rattle.rules.specs.Log.{History, phaseAfter, outputAfter, Took, Repl
 use Rattle.rules.specs.Epoch.{seenRaise, flagsOf, bumps}
 use Rattle.rules.specs.SoundStart.{Named, SoundStart}
 use Rattle.rules.specs.Turns.{awaited, fits, Proceeds}
-use Rattle.rules.specs.AnswerFacts.{answeredReceipts, Falling, AnswersTo, OfOrder, Verified, AllFour, FailedBy, unobserved, unexecuted, unobserved-after, unverified, Asked}
+use Rattle.rules.specs.AnswerFacts.{answeredReceipts, Falling, AnswersTo, OfOrder, Verified, AllFour, ActiveSo, stream, discrete, control, FailedBy, unobserved, unexecuted, unobserved-after, unverified, Asked}
 use Rattle.rules.specs.Grantable.{Grantable, Renewable}
 use Rattle.rules.specs.Way.{Runs, Ticked}
 use Rattle.rules.specs.Claim.{Between, nameOf, OpensSo, AreUsed, Claim}
@@ -234,6 +237,17 @@ failed-by unobserved = inl (refl, inl (inl refl))
 failed-by unexecuted = inl (refl, inr (inr (inl refl)))
 failed-by unobserved-after = inl (refl, inl (inr (inr (inl refl))))
 failed-by (unverified n) = inr (refl, _, _, refl, n)
+
+-- how long an order is active ----------------------------------------------------------------------------------------
+
+pub active-until : {c : Capability} {o : Submission} {l : Lease} {class : ExecutionClass} {a : Option Active} → ActiveSo c o l class a
+    → ((class ≡ Class.Stream) × (x : Active) × (a ≡ some x) × (x .capability ≡ c)
+    × (x .«expires_at» ≡ min (o .«received_at» + o .action .«valid_for_ms») (l .«expires_at»)))
+    ⊎ (((class ≡ Class.Discrete) × (x : Active) × (a ≡ some x) × (x .capability ≡ c) × (x .«expires_at» ≡ top))
+    ⊎ ((class ≡ Class.Control) × (a ≡ none)))
+active-until (stream c e) = inl (refl, _, refl, c, e)
+active-until (discrete c e) = inr (inl (refl, _, refl, c, e))
+active-until control = inr (inr (refl, refl))
 
 -- what was asked for, of a call that is known --------------------------------------------------------------------------
 
@@ -528,6 +542,56 @@ module _ (lives : List Life) (claim : Claim lives) where
       → current (logOf s h) ≡ some x → bookBefore s h ≡ some b → AllFour x b → r .decision ≡ Decision.Executed
   all-four-executed s h x b r e q f four = claim .answers s h .executed x b r e q f .1 four
 
+  -- what it then reports (01: "filled as in `event` and `submit`")
+  pub executed-reports : (s : Start) (h : History) (x : Exchange) (b : Book) (r : Receipt) → outputAfter s h ≡ Answers (Submitted r)
+      → current (logOf s h) ≡ some x → bookBefore s h ≡ some b → (p : AllFour x b)
+      → (r .reason ≡ Reason.Ok) × (r .resource ≡ p .capability .resource) × (r .dispatched ≡ true) × (r .«executed_at» ≡ p .order .now)
+      × (r .«pre_state» ≡ p .first .state) × (r .«observed_valid» ≡ true) × (r .observed ≡ p .second .parameters)
+      × (r .«post_state» ≡ p .second .state)
+  executed-reports s h x b r e q f p =
+      let k = claim .answers s h .completed x b r e q f p .2 in
+      (k .reason, k .resource, k .dispatched, k .executed-at, k .pre, k .seen, k .observed, k .post)
+
+  -- and leaves: the last sequence of its lease, the active order of its axis, the count at 0, and no other of these
+  pub executed-leaves : (s : Start) (h : History) (x : Exchange) (b : Book) (r : Receipt) → outputAfter s h ≡ Answers (Submitted r)
+      → current (logOf s h) ≡ some x → bookBefore s h ≡ some b → (p : AllFour x b)
+      → (after : Book) × (phaseAfter s h ≡ Idle after)
+      × (old : Lease) × (leaseAt (p .book) (p .capability .resource) ≡ some old)
+      × (new : Lease) × (after .leases ≡ set (p .book .leases) (p .capability .resource) (some new))
+      × (new .«last_sequence» ≡ p .order .action .sequence) × (new .id ≡ old .id) × (new .owner ≡ old .owner) × (new .resource ≡ old .resource)
+      × (new .capabilities ≡ old .capabilities) × (new .limits ≡ old .limits) × (new .«expires_at» ≡ old .«expires_at»)
+      × (new .«last_renewal» ≡ old .«last_renewal»)
+      × (order : Option Active) × ActiveSo (p .capability) (p .order) old (p .capability .class) order
+      × (after .active ≡ set (p .book .active) (p .capability .resource) order)
+      × (after .invalidCount ≡ 0) × (after .stateAt ≡ p .book .stateAt) × (after .lastTick ≡ p .book .lastTick)
+      × (after .nextLease ≡ p .book .nextLease)
+  executed-leaves s h x b r e q f p =
+      let end = claim .answers s h .completed x b r e q f p in
+      let k = end .2 in
+      let n = k .sequenced in (
+        end .0,
+        end .1,
+        k .old,
+        k .held,
+        k .new,
+        k .leases,
+        n .last,
+        n .id,
+        n .owner,
+        n .resource,
+        n .capabilities,
+        n .limits,
+        n .expires,
+        n .renewal,
+        k .order,
+        k .activeSo,
+        k .active,
+        k .count,
+        k .stamp,
+        k .lastTick,
+        k .nextLease,
+      )
+
   -- proofs.rs, `receipts_never_wrap_or_lose_order`: of two answers to orders the later has the greater number, below the top of u64
   pub answers-rise : (s : Start) (h : History) → nextNumber (logOf s h) < top
       → (newer : List Receipt) (r : Receipt) (between : List Receipt) (q : Receipt) (older : List Receipt)
@@ -545,6 +609,31 @@ module _ (lives : List Life) (claim : Claim lives) where
   lease-told s h x b l e q f =
       let k = claim .answers s h .lease x b l e q f in
       (k .now, k .ticked-book, k .ticked, k .receipt, k .asked, k .handed, k .control, k .lease, k .owner, k .book, k .idle, k .stands)
+
+  -- it leaves the leases of other axes, active orders, the count, the stamp and the clock; a grant takes one lease number, a renewal none
+  pub lease-leaves : (s : Start) (h : History) (x : Exchange) (b : Book) (l : Lease) → outputAfter s h ≡ Answers (Leased l)
+      → current (logOf s h) ≡ some x → bookBefore s h ≡ some b
+      → (now : ℕ) × (ticked : Book) × Ticked now b x ticked × (r : Receipt) × (after : Book) × (phaseAfter s h ≡ Idle after)
+      × (after .leases ≡ set (ticked .leases) (r .resource) (some l)) × (after .active ≡ ticked .active)
+      × (after .invalidCount ≡ ticked .invalidCount) × (after .stateAt ≡ ticked .stateAt) × (after .lastTick ≡ ticked .lastTick)
+      × (((r .reason ≡ Reason.LeaseGranted) × (after .nextLease ≡ bump (ticked .nextLease)))
+      ⊎ ((r .reason ≡ Reason.LeaseRenewed) × (after .nextLease ≡ ticked .nextLease)))
+  lease-leaves s h x b l e q f =
+      let k = claim .answers s h .lease x b l e q f in
+      let n = k .rest in (
+        k .now,
+        k .ticked-book,
+        k .ticked,
+        k .receipt,
+        k .book,
+        k .idle,
+        n .leases,
+        n .active,
+        n .count,
+        n .stamp,
+        n .lastTick,
+        n .nextLease,
+      )
 
   -- 01: "`acquire`, after tick: readiness; 10; 3; 19 taken; 10 expiry past u64", each as a fact about the book that the tick left
   pub granted-means : (s : Start) (h : History) (x : Exchange) (b : Book) (l : Lease) → outputAfter s h ≡ Answers (Leased l)
