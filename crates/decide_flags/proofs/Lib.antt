@@ -1,0 +1,4 @@
+pub mod Forbidden
+pub mod Senses
+pub mod Stops
+pub mod Recovery

@@ -1,0 +1,103 @@
+-- The two stops, and what a poll finds. Assumes nothing.
+use Prim.Native.Nat.{ℕ, max}
+use mathlib.Core.Bool.{true, false, false≢true}
+use mathlib.Core.Path.{_≡_, refl, sym, _∙_}
+use borrow.Author.Tests.{eq-eqb, ne-eqb}
+use lib.Bits.{bitOr}
+use Rattle.model.specs.declared.Reason.the-variants as Reason
+use Rattle.rules.specs.Book.{Book}
+use Rattle.rules.specs.Interaction.{Done, Polled}
+use Rattle.rules.specs.Protocol.{Idle, PollEstop, begin, proceed}
+use Rattle.rules.specs.Rules.{trip, stopTime, masked, emergencyStop, pollEstop}
+use Rattle.rules.specs.With.{withFlags, withLastTick, withEstopSeen}
+use Rattle.state.specs.State.{Asked, Hand, State, bookOf, bookIn, waits, afterTrip, phaseAt, phaseOf, outputOf, reactionOf}
+use Rattle.state.specs.Stores.{Takes}
+use Rattle.state.specs.declared.AfterTrip.{AfterTrip}
+use Rattle.state.specs.declared.AfterTrip.the-variants as AfterTrip
+use Rattle.state.specs.declared.Answer.the-variants as Answer
+use Rattle.state.specs.declared.Awaited.{Awaited}
+use Rattle.state.specs.declared.Awaited.the-variants as Awaited
+use Rattle.state.specs.declared.Course.{Course}
+use Rattle.state.specs.declared.Fixed.{Fixed}
+use Rattle.state.specs.declared.Numbers.{Numbers}
+use Rattle.state.proofs.Courses.{SameCounts, sound-from, leads-from}
+use Rattle.state.proofs.Turns.{call-waits, call-begins}
+use Rattle.decide_flags.specs.Flags.{PollsAs}
+use Rattle.decide_flags.specs.declared.Poll.the-variants as Poll
+
+abbrev stopping : ℕ → ℕ → Numbers → Numbers
+stopping flags time n =
+    record {
+      «next_receipt» = n .«next_receipt»;
+      «next_lease» = n .«next_lease»;
+      epoch = n .epoch;
+      «state_at» = n .«state_at»;
+      «last_tick» = time;
+      flags = flags;
+      «estop_seen» = n .«estop_seen»;
+      «invalid_count» = n .«invalid_count»;
+      mode = n .mode;
+      held = n .held;
+      soonest = n .soonest;
+    }
+
+pub stops-so : (f : Fixed) (n : Numbers) (time : ℕ) (after : AfterTrip) {c : Course} (larger : ℕ) → larger ≡ max (n .«last_tick») time
+    → Takes f (stopping (bitOr (n .flags) (f .config .«estop_mask»)) larger n) c (λ b q. trip Reason.Estop larger b (afterTrip after 0 larger q))
+    → Takes f n c (λ b q. emergencyStop time b (afterTrip after 0 (stopTime time b) q))
+unfolding emergencyStop stopTime masked withFlags withLastTick bookOf
+stops-so f n time after larger e k t q h s =
+    let same : SameCounts n (stopping (bitOr (n .flags) (f .config .«estop_mask»)) larger n) = (refl, refl, refl, refl) in
+    leads-from same (rw e) (k t q h (sound-from same s))
+
+abbrev seeing : ℕ → Numbers → Numbers
+seeing raised n =
+    record {
+      «next_receipt» = n .«next_receipt»;
+      «next_lease» = n .«next_lease»;
+      epoch = n .epoch;
+      «state_at» = n .«state_at»;
+      «last_tick» = n .«last_tick»;
+      flags = n .flags;
+      «estop_seen» = raised;
+      «invalid_count» = n .«invalid_count»;
+      mode = n .mode;
+      held = n .held;
+      soonest = n .soonest;
+    }
+
+pub polls-so : (f : Fixed) (n : Numbers) (raised time : ℕ) {c : Course}
+    → Takes f (seeing raised n) c (λ b q. emergencyStop time b (afterTrip AfterTrip.Poll 0 (stopTime time b) q))
+    → Takes f n c (λ b q. emergencyStop time (withEstopSeen raised b) (λ b′. Done b′ (Polled true)))
+unfolding withEstopSeen bookOf afterTrip
+polls-so f n raised time k t q h s =
+    let same : SameCounts n (seeing raised n) = (refl, refl, refl, refl) in
+    leads-from same refl (k t q h (sound-from same s))
+
+-- a poll -----------------------------------------------------------------------------------------------------------------
+
+idle : (w : Awaited) (h : Hand) (q : Asked) (b : Book) → waits w ≡ false → phaseAt w h q b ≡ Idle b
+unfolding phaseAt
+idle Awaited.Nothing h q b e = refl
+idle Awaited.ObserveBefore h q b e = absurd (false≢true (sym e))
+idle Awaited.Execute h q b e = absurd (false≢true (sym e))
+idle Awaited.ObserveAfter h q b e = absurd (false≢true (sym e))
+idle Awaited.Fallback h q b e = absurd (false≢true (sym e))
+idle Awaited.Record h q b e = absurd (false≢true (sym e))
+
+module _ (s : State) (raised now : ℕ) where
+  pub poll-waits : waits (s .hand .waiting .awaited) ≡ true → PollsAs Poll.Waits s raised now
+  unfolding PollsAs
+  poll-waits w = call-waits s (PollEstop raised now) w
+
+  module _ (w : waits (s .hand .waiting .awaited) ≡ false) where
+    unraised : reactionOf Answer.Unraised s ≡ proceed (Done (bookIn s) (Polled false))
+    unfolding reactionOf outputOf phaseOf proceed
+    unraised = rw (idle (s .hand .waiting .awaited) (s .hand) (s .asked) (bookIn s) w)
+
+    pub poll-same : raised ≡ s .numbers .«estop_seen» → PollsAs Poll.Same s raised now
+    unfolding PollsAs begin pollEstop bookOf
+    poll-same e = unraised ∙ sym (call-begins s (PollEstop raised now) w ∙ rw (eq-eqb raised (s .numbers .«estop_seen») e))
+
+    pub poll-raised : (raised ≡ s .numbers .«estop_seen» → ⊥) → PollsAs Poll.Raised s raised now
+    unfolding PollsAs begin pollEstop bookOf
+    poll-raised e = sym (call-begins s (PollEstop raised now) w ∙ rw (ne-eqb raised (s .numbers .«estop_seen») e))
