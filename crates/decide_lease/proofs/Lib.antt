@@ -1,0 +1,5 @@
+pub mod Checks
+pub mod Numbers
+pub mod Axes
+pub mod Held
+pub mod Grants
