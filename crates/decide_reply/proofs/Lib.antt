@@ -1,0 +1,4 @@
+pub mod Parameters
+pub mod Turns
+pub mod Replies
+pub mod Receipts
