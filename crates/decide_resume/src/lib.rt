@@ -24,6 +24,7 @@ use state::returned;
 use state::submitted;
 use state::succeeded;
 use state::trips;
+ghost use Prim.Native.Nat.{_≤_};
 ghost use mathlib.Core.Path.{_≡_};
 ghost use mathlib.Core.Bool.{Bool};
 ghost use Rattle.state.specs.State.{Tables, afterTrip, afterFallbackOf, afterFallback, InBounds};
@@ -63,7 +64,9 @@ fn forbidden_from(axis: u8) -> Search
     }
 }
 
-fn nothing() -> Search {
+fn nothing() -> Search
+    ensures { λ r. ⌜ r .from ≡ 8 ⌝ }
+{
     Search {
         sought: Sought::Nothing,
         from: 8,
@@ -72,7 +75,7 @@ fn nothing() -> Search {
 
 fn search_after_trip(falling: Falling) -> Search
     requires { ⌜ InBounds falling ⌝ }
-    ensures { λ r. ⌜ TripSeeks (falling .«after_trip») (falling .at) r ⌝ }
+    ensures { λ r. ⌜ TripSeeks (falling .«after_trip») (falling .at) r × (r .from ≤ 8) ⌝ }
 {
     let after = falling.after_trip;
     match after {
@@ -91,7 +94,7 @@ fn search_after_trip(falling: Falling) -> Search
 // What the fallback in hand asks for.
 pub fn search_after(falling: Falling) -> Search
     requires { ⌜ InBounds falling ⌝ }
-    ensures { λ r. ⌜ Seeks falling r ⌝ }
+    ensures { λ r. ⌜ Seeks falling r × (r .from ≤ 8) ⌝ }
 {
     let after = falling.after;
     match after {
