@@ -1,0 +1,3 @@
+pub mod Runtimes
+pub mod Kept
+pub mod Promises
