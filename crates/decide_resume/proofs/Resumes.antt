@@ -1,18 +1,17 @@
 -- What follows a trip and a fallback, by the stored place. Assumes nothing.
 use Prim.Native.Nat.{ℕ, _+_, _<_, _≤_}
-use mathlib.Core.Bool.{Bool, true, false, not, cond}
-use mathlib.Core.Path.{_≡_, refl, sym, ap, _∙_}
+use mathlib.Core.Bool.{Bool, true, false, not}
+use mathlib.Core.Path.{_≡_, refl}
 use lib.Dec.{eqb}
 use Rattle.model.specs.declared.LeaseSlot.{LeaseSlot}
 use Rattle.model.specs.declared.Reason.the-variants as Reason
 use Rattle.model.specs.declared.RuntimeState.{RuntimeState}
 use Rattle.rules.specs.Admission.{axes}
-use Rattle.rules.specs.Book.{Book}
-use Rattle.rules.specs.Interaction.{Interaction, Done, Returned, Polled, Succeeded, Refused, Submitted}
-use Rattle.rules.specs.Rules.{fallback, fallbacks, trip, staleness, expiries, preconditions, refreshState, refreshed}
+use Rattle.rules.specs.Interaction.{Done, Returned, Polled, Succeeded, Refused, Submitted}
+use Rattle.rules.specs.Rules.{fallback, fallbacks, trip, staleness, expiries, preconditions, refreshed}
 use Rattle.rules.specs.With.{withLastTick, withState}
-use Rattle.state.specs.Axes.{upFrom, axesFrom, usedFrom, firstUsed}
-use Rattle.state.specs.State.{Tables, Asked, bookOf, afterTick, tickEnd, flagsEnd, afterTrip, afterFallbackOf, afterFallback, InBounds}
+use Rattle.state.specs.Axes.{upFrom, axesFrom, firstUsed}
+use Rattle.state.specs.State.{Tables, bookOf, afterTick, tickEnd, flagsEnd, afterTrip, afterFallbackOf, afterFallback, InBounds}
 use Rattle.state.specs.Stores.{Takes, TakesWhere}
 use Rattle.state.specs.declared.AfterFallback.{AfterFallback}
 use Rattle.state.specs.declared.AfterFallback.the-variants as AfterFallback

@@ -8,7 +8,7 @@ use Rattle.model.specs.declared.Reason.the-variants.{Ok}
 use Rattle.model.specs.declared.RuntimeState.{RuntimeState}
 use Rattle.rules.specs.Book.{Book}
 use Rattle.rules.specs.Interaction.{Interaction, Done, Returned, Polled, Succeeded, Refused, Submitted}
-use Rattle.rules.specs.Protocol.{Reaction, proceed}
+use Rattle.rules.specs.Protocol.{proceed}
 use Rattle.rules.specs.Receipts.{bump}
 use Rattle.rules.specs.Rules.{bumpEpoch, cleared, fallback, usedAxes, fallbacks, tripped, trip}
 use Rattle.rules.specs.With.{withLeases, withActive, withEpoch, withState}

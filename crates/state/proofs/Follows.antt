@@ -1,6 +1,5 @@
 -- A course followed keeps what is sound. Assumes nothing.
 use mathlib.Core.Bool.{false≢true}
-use lib.ListN.{getD}
 use Rattle.state.specs.declared.Course.{Course}
 use Rattle.state.specs.declared.Way.{Way}
 use Rattle.state.specs.declared.Way.the-variants.{Falls, Ends, GoesOn}
