@@ -2,7 +2,7 @@
 import re
 from mir import *
 from terms import *
-WORD = r'(?<![\w.«»·′-]){}(?![\w»·′-])'
+WORD = r'(?<![\w.«»·′-]){}(?![\w»·′-])(?! = )'    # a field's name in a record stays
 
 
 def put(text, names):
@@ -115,7 +115,7 @@ class Calls:
     def call_mut(w, st, c):
         i, r, t, h, fn = c['i'], c['r'], c['fn'].res, P(st.h), c['fn']; x = f' ν{i} γ{i}'
         fins = 'Runtime × ' + ''.join('(Unit {0} × ' for _ in fn.vals) + 'Unit {0}' + ')' * len(fn.vals)
-        ends = f'some (λ (zs{i} : {fins}). ‵ (lasts c-{fn.name}.ended (ν{i} ∷ [], tt) (given{i}{c["data"]} γ{i}) zs{i}) ⊛ raw (fact 𝓤 ({c["said"]})))'
+        ends = f'some (λ (zs{i} : {fins}). ‵ (lasts c-{fn.alias}.ended (ν{i} ∷ [], tt) (given{i}{c["data"]} γ{i}) zs{i}) ⊛ raw (fact 𝓤 ({c["said"]})))'
         out = [f'passes-on ! tt tRuntime.the-row {h} blk off (λ ν{i} γ{i}. use2 W {w.goes(c, x)}', f'calls-at{c["last"]} ! fm Call{i} known-{dashed(fn.name)} (to{i}{c["data"]}{x}) {w.opds(st, c, 2 - w.pre(st))} (λ v{i}.',
                f'use1 W (later (some (λ ({r} : {denot(t)}). {w.lent(c, ends)}))) (id⊢ 𝓤 _) $ await ! tt $ pick ! (λ {r}.',
                f'split ! $ move ! (1 ∷ []) $ pick ! (λ zs{i}. split ! $ move ! (1 ∷ []) $ heard ! ({c["said"]}) (λ {c["e"]}. fsplit ! $ move ! (2 ∷ []) $ split ! $ move ! (1 ∷ []) $ peeks ! {row(t)} (Is {row(t)}) (shows 𝓤 H A {row(t)}) {r} (v{i} ∷ []) (λ is{i}. drop ! $']

@@ -14,7 +14,7 @@ TAKEN = {n.split(' as ')[-1].strip(): mod_ for mod_, names in re.findall(r'^use 
 def safe(name):
     """A parameter's name, or another where the steps have a use for it."""
     name = name.strip('«»').replace('_', '-')
-    return f'the-{name}' if name in TAKEN else name
+    return f'the-{name}' if name in TAKEN or name == 'good' else name
 
 
 def decl(name, ty, body, word='abbrev '): return [f'{word}{name} : {ty}', f'{name} = {body}', '']
@@ -102,7 +102,7 @@ class Frame:
 
     def call(f, c):
         c = f.outside(c)
-        i, fn, t, r = c['i'], c['fn'], c['fn'].res, c['r']; tr = f'tripleOf 𝓤 H A c-{fn.name}.signature (c-{fn.name}.spec 𝓤 H A at-mem run)'
+        i, fn, t, r = c['i'], c['fn'], c['fn'].res, c['r']; tr = f'tripleOf 𝓤 H A c-{fn.alias}.signature (c-{fn.alias}.spec 𝓤 H A at-mem run)'
         out = [f'-- {fn.name}'] + decl(f'Call{i}', 'Contract 𝓤', tr) + [f'module _{c["tele"]} where']
         ty = ''.join(f'({P(denot(t))} × ' for _, t in fn.vals) + 'Unit {0}' + ')' * len(fn.vals)
         lft, sh = {'val': ('tt', 'tt'), 'same': ('(κ, tt)', '(share, tt)')}.get(c['how'], (f'(ν{i} ∷ [], tt)', '(fullShare, tt)'))
@@ -119,8 +119,8 @@ class Frame:
     def got(f, c, lft):
         i, fn, r = c['i'], c['fn'], c['r']; lent = c['how'] == 'shr'; g = f'(given{i} γ{i})' if lent else f'given{i}'
         xs, ts, bs = (f'ν{i} γ{i} ', 'ℕ → GName → ', f'(ν{i} : ℕ) (γ{i} : GName) ') if lent else ('', '', '')
-        return [f'abbrev Got{i} : {ts}{denot(fn.res)} → SProp 𝓤', f'Got{i} {xs}{r} = ensured 𝓤 H A c-{fn.name}.ended (c-{fn.name}.clauses 𝓤 H A at-mem run) {lft} {g} tt {r}', '',
-                f'got{i} : {bs}({r} : {denot(fn.res)}) → ent 𝓤 (Got{i} {xs}{r}) (fact 𝓤 ({c["said"]}))', f'got{i} {xs}{r} = exE 𝓤 _ (λ ws. snd∗ 𝓤 (sem 𝓤 H A (lasts c-{fn.name}.ended {lft} {g} ws)) (fact 𝓤 ({c["said"]})))', '']
+        return [f'abbrev Got{i} : {ts}{denot(fn.res)} → SProp 𝓤', f'Got{i} {xs}{r} = ensured 𝓤 H A c-{fn.alias}.ended (c-{fn.alias}.clauses 𝓤 H A at-mem run) {lft} {g} tt {r}', '',
+                f'got{i} : {bs}({r} : {denot(fn.res)}) → ent 𝓤 (Got{i} {xs}{r}) (fact 𝓤 ({c["said"]}))', f'got{i} {xs}{r} = exE 𝓤 _ (λ ws. snd∗ 𝓤 (sem 𝓤 H A (lasts c-{fn.alias}.ended {lft} {g} ws)) (fact 𝓤 ({c["said"]})))', '']
 
     def related(f, c):
         """What is known of the result's value; and, where the callee says what its result is, the same of that."""
@@ -150,7 +150,7 @@ class Frame:
         for c in f.w.made['calls']: seen.setdefault(c['fn'].name, c['fn'])
         return list(seen.values())
 
-    def triple(f, fn, C): return f'Triple 𝓤 ({C} #{dashed(fn.crate + "::" + fn.name)}) (tripleOf 𝓤 H A c-{fn.name}.signature (c-{fn.name}.spec 𝓤 H A at-mem run))'
+    def triple(f, fn, C): return f'Triple 𝓤 ({C} #{dashed(fn.crate + "::" + fn.name)}) (tripleOf 𝓤 H A c-{fn.alias}.signature (c-{fn.alias}.spec 𝓤 H A at-mem run))'
 
     def walk(f, st0, lines):
         w, n = f.w, f.w.n; ls = ' '.join('l' + subscript(k) for k in range(n))
@@ -201,7 +201,7 @@ class Frame:
         return out + f.spec()
 
     def spec(f):
-        cs = ''.join(f'\n    (cited 𝓤 H (tripleOf 𝓤 H (𝓖 .A) c-{g.name}.signature (c-{g.name}.spec 𝓤 H (𝓖 .A) (𝓜 .mem) (𝓡 .run))) 𝓜 𝓡 code.env #{dashed(g.crate + "::" + g.name)} c-{g.name}-def.routine code.calls-{dashed(g.crate + "::" + g.name)} (c-{g.name}-thm.met 𝓤 H 𝓜 𝓖 𝓡))' for g in f.callees())
+        cs = ''.join(f'\n    (cited 𝓤 H (tripleOf 𝓤 H (𝓖 .A) c-{g.alias}.signature (c-{g.alias}.spec 𝓤 H (𝓖 .A) (𝓜 .mem) (𝓡 .run))) 𝓜 𝓡 code.env #{dashed(g.crate + "::" + g.name)} c-{g.alias}-def.routine code.calls-{dashed(g.crate + "::" + g.name)} (c-{g.alias}-thm.met 𝓤 H 𝓜 𝓖 𝓡))' for g in f.callees())
         return [f'pub {f.key}-spec : {{M : Type 1}} → stated.statement M', 'unfolding code.routine tablesOf', f'{f.key}-spec 𝓤 H 𝓜 𝓖 𝓡 =',
                 '    entered 𝓤 H (tripleOf 𝓤 H (𝓖 .A) f.signature (f.spec 𝓤 H (𝓖 .A) (𝓜 .mem) (𝓡 .run)))', f'    (tables 𝓤 H 𝓜 𝓡 code.env .C) (tables 𝓤 H 𝓜 𝓡 code.env .Λ) #{f.crate}·{f.key} code.function (code.unfolded 𝓤 H 𝓜 𝓡)',
                 f'    (meets 𝓤 H (𝓖 .A) (givenOf 𝓤 H 𝓜 𝓖) (𝓜 .mem) (𝓡 .run) (tablesOf 𝓤 H 𝓜 (tables 𝓤 H 𝓜 𝓡 code.env))' + cs + ')']
@@ -226,7 +226,7 @@ class Frame:
                 if re.search(rf'(?<![\w.]){v}\b', text): out.append(f'use Rattle.{f.crate}.proofs.Values.{{{v}}}')
             if re.search(rf'(?<![\w]){t.name}\b', text): out.append(f'use {own(t.crate, "specs")}.declared.{t.name}.{{{t.name}}}')
         for g in f.callees():
-            m = f'{own(g.crate, "proofs")}.{g.name}'; out += [f'use {m} as c-{g.name}', f'use {m}.Symbol as c-{g.name}-def', f'use {m}.Symbol.{{name as #{dashed(g.crate + "::" + g.name)}}}', f'use {m}.Met as c-{g.name}-thm']
+            m = f'{own(g.crate, "proofs")}.{g.name}'; out += [f'use {m} as c-{g.alias}', f'use {m}.Symbol as c-{g.alias}-def', f'use {m}.Symbol.{{name as #{dashed(g.crate + "::" + g.name)}}}', f'use {m}.Met as c-{g.alias}-thm']
         m = f'Rattle.{f.crate}.proofs.{f.fn.name}'
         out += [f'use {m}.Key.{{name as #{f.crate}·{f.key}}}', f'use {m} as f', f'use {m}.Statement as stated', f'use {m}.Code as code']
         return out + f.cited(text)
@@ -242,4 +242,5 @@ class Frame:
                 if n in TAKEN or not re.search(r'(?<![\w.])' + re.escape(n.strip('_')) + r'(?![\w])', text): continue
                 if seen.setdefault(n, (mod_, spelt)) != (mod_, spelt): raise SystemExit(f'{f.fn.name}: `{n}` is in {mod_} and in {seen[n][0]}')
                 by.setdefault(mod_, {})[spelt] = None
-        return [f'use {mod_}.{{{", ".join(ns)}}}' for mod_, ns in by.items()]
+        wholes = [f'use {mod_} {n}' for mod_, ns in by.items() for n in ns if n.startswith('as ')]
+        return wholes + [f'use {mod_}.{{{", ".join(n for n in ns if not n.startswith("as "))}}}' for mod_, ns in by.items() if any(not n.startswith('as ') for n in ns)]

@@ -41,6 +41,8 @@ class Fn:
         f.lends = bool(params) and isinstance(params[0][1], str)
         f.kind = 'val' if not f.lends else 'mut' if '&mut' in params[0][1] else 'shr'
         f.vals = params[1:] if f.lends else params
+        # `in` is a word of antt's, and can't be a part of a name
+        f.alias = name if 'in' not in name.split('_') else name.replace('_', '-')
 
 
 class Sources:
@@ -67,13 +69,17 @@ class Sources:
             parts = split_top(body)
             if m[1] == 'struct': s.types[m[2]].fields = [(quoted(p.split(':')[0].strip()), s.parse(p.split(':', 1)[1])) for p in parts]
             else: s.types[m[2]].variants = [s.variant(p) for p in parts]
+        place = lambda mod: mod.strip() if c == s.crate else re.sub(rf'^Rattle\.{c}\.specs\.', f'Rattle.{c}.specs.', mod.strip())
         for m in re.finditer(r'ghost use ([^;{]+)\.\{([^}]*)\};', text):
             for n in split_top(m[2]):
-                mod = m[1].strip() if c == s.crate else re.sub(rf'^Rattle\.{c}\.specs\.', f'Rattle.{c}.specs.', m[1].strip())
+                mod = place(m[1])
                 s.uses.setdefault(c, {})[n.split(' as ')[-1].strip()] = (mod, n)
+        for m in re.finditer(r'ghost use ([^;{]+) as (\w+);', text): s.uses.setdefault(c, {})[m[2]] = (place(m[1]), f'as {m[2]}')
 
     def apart(s, taken):
-        """A name of a contract that the walks have another use for gets a prime."""
+        """A name of a contract that the walks have another use for, or that a type has, gets a prime."""
+        own = lambda t: f'Rattle.{t.crate}.specs' if t.crate == s.crate else f'Rattle.{t.crate}.specs'
+        taken = {**{t.name: f'{own(t)}.declared.{t.name}' for t in s.types.values()}, **taken}
         for c, names in s.uses.items():
             for n in [n for n, (mod, _) in names.items() if taken.get(n, mod) != mod]:
                 mod, spelt = names.pop(n); names[n + '′'] = (mod, f"{spelt.split(' as ')[0]} as {n}′")

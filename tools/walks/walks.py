@@ -3,7 +3,7 @@
 #     MIR    what `rt mir CRATE` prints      DESC    the descriptions, one for each function (README.md)
 # The statements and the locals come from the MIR; types, layouts and contracts from the sources; the facts from the descriptions.
 import os, sys
-from sources import Sources
+from sources import Sources, Ty
 from mir import load
 from walk import Walk
 from frame import Frame, TAKEN
@@ -29,13 +29,13 @@ def depth(t): return depth(t.elem) if t.kind == 'array' else 1 + max([depth(x) f
 
 def reached(src):
     """The types that a runtime or a function leads to."""
-    seen, todo = set(), [src.types['Runtime']] + [t for f in src.fns.values() if f.crate != 'rules' for _, t in f.vals] + [f.res for f in src.fns.values()]
+    seen, todo = set(), [src.types['Runtime']] + [t for f in src.fns.values() if f.crate != 'rules' for _, t in f.vals if isinstance(t, Ty)] + [f.res for f in src.fns.values()]
     while todo:
         t = todo.pop()
         if t.kind == 'array': todo.append(t.elem)
         elif t.kind in ('struct', 'enum') and t.name not in seen:
             seen.add(t.name); todo += [x for _, x in t.fields] + [x for _, v in t.variants for x in v]
-    return seen - {'Freed', 'Found', 'Ring'}
+    return seen - {'Freed', 'Found', 'Ring', 'Listed', 'Created'}
 
 
 def main():

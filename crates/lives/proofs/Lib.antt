@@ -3,3 +3,4 @@ pub mod Faithful
 pub mod Logs
 pub mod Theorem
 pub mod Lent
+pub mod Link

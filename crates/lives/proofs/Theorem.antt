@@ -12,7 +12,7 @@ use Rattle.lives.proofs.Faithful.{faithful, same-end}
 use Rattle.lives.proofs.Logs.{log-forward}
 
 module _ {C : Type 0} (lifeIn : C → Life) (outputsIn : C → List Output) (endIn : C → Phase) (same : (c : C) → outputsIn c ≡ outputs (lifeIn c)) (stands : (c : C) → endIn c ≡ endOf (lifeIn c)) where
-  same-log : (c : C) → logIn lifeIn outputsIn endIn c ≡ logOf (lifeIn c .start) (reverse (lifeIn c .inputs))
+  pub same-log : (c : C) → logIn lifeIn outputsIn endIn c ≡ logOf (lifeIn c .start) (reverse (lifeIn c .inputs))
   same-log c = ap (logFrom (lifeIn c .inputs)) (same c) ∙ log-forward (lifeIn c)
 
   same-orders : (cs : List C) → executedIn lifeIn outputsIn endIn cs ≡ Log.executedIn (map lifeIn cs)

@@ -1,30 +1,37 @@
--- Lives over a lent runtime, by the promises of the outer functions alone (crate runtime), and demand 3 of them (00). As in Runs, a step takes a
--- promise as it stands, with its condition, and that the condition holds is proved along the run.
+-- Lives over the runtime where it stands, by the promises of its public functions alone (crate runtime), and demand 3 of them (00). As in Runs, a step
+-- takes a promise as it stands, with its condition, and that the condition holds is proved along the run.
+use mathlib.Core.Bool.{false}
 use mathlib.Core.List.{List, _∷_}
 use mathlib.Core.Path.{_≡_}
-use Rattle.rules.specs.Protocol.{Call, Reply, Reading, Input, Calls, Replies, Reads, Value, Output, Shows, Start, start as startRule, react}
+use Rattle.rules.specs.Protocol.{Call, Reply, Reading, Input, Calls, Replies, Reads, Output, Start, start as startRule, react, bookIn, shown as shownRule}
 use Rattle.rules.specs.Lives.{Life}
-use Rattle.start.specs.declared.Stage.the-variants.{Started}
-use Rattle.steps.specs.declared.Answer.{Answer}
-use Rattle.steps.specs.declared.Runtime.{Runtime}
-use Rattle.steps.specs.Runtimes.{phaseIn, outputOfAnswer, RuntimeSound, Moves, Shown}
-use Rattle.lives.specs.Runs.{Run, ClaimOf}
+use Rattle.rules.specs.Log.{tookEffect}
+use Rattle.state.specs.declared.Answer.{Answer}
+use Rattle.state.specs.State.{outputOf}
+use Rattle.runtime.specs.declared.Runtime.{Runtime}
+use Rattle.runtime.specs.Runtimes.{stateIn}
+use Rattle.runtime.specs.Stages.{phaseIn, RuntimeSound, Moves, Turns}
+use Rattle.lives.specs.Runs.{Run, here, then, ClaimOf}
 
 -- a step ---------------------------------------------------------------------------------------------------------------
 
 -- what the function of a call or a reply promises of the runtime that it leaves, and of its answer
 abbrev pub LentPromised : Runtime → Input → Runtime → Answer → Type 0
-LentPromised rt i next answer = RuntimeSound rt → Moves next answer (react (phaseIn rt) i)
+LentPromised rt i next answer = RuntimeSound rt → Turns rt next answer (react (phaseIn rt) i)
+
+-- what the function of a reading promises of what it shows, in the rules' words; it leaves the runtime
+abbrev pub LentShown : Runtime → Reading → Output → Type 0
+LentShown rt q out = RuntimeSound rt → out ≡ shownRule q (bookIn (phaseIn rt))
 
 -- 01's output, by the answer and the runtime that holds what it speaks of
 abbrev pub outputIn : Answer → Runtime → Output
-outputIn answer rt = outputOfAnswer answer (rt .starting) (rt .core)
+outputIn answer rt = outputOf answer (stateIn rt)
 
--- one input: what comes out, and the runtime afterwards; a reading once the start is over (01: "until it ends there is no runtime to read")
+-- one input, at any stage of the start: what comes out, and the runtime afterwards
 pub data LentStep : Runtime → Input → Output → Runtime → Type 0 where
   called : {rt next : Runtime} {c : Call} (answer : Answer) → LentPromised rt (Calls c) next answer → LentStep rt (Calls c) (outputIn answer next) next
   replied : {rt next : Runtime} {r : Reply} (answer : Answer) → LentPromised rt (Replies r) next answer → LentStep rt (Replies r) (outputIn answer next) next
-  shown : {rt : Runtime} {q : Reading} {v : Value} → rt .starting .stage ≡ Started → (RuntimeSound rt → Shown rt q v) → LentStep rt (Reads q) (Shows v) rt
+  shown : {rt : Runtime} {q : Reading} {out : Output} → LentShown rt q out → LentStep rt (Reads q) out rt
 
 -- a life ---------------------------------------------------------------------------------------------------------------
 
@@ -52,3 +59,10 @@ lifeOf c = record { start = c .start; inputs = c .inputs }
 
 abbrev pub LentClaim : List LentLife → Type 0
 LentClaim cs = ClaimOf lifeOf outputsOf (λ c. phaseIn (c .last)) cs
+
+-- what is turned away ----------------------------------------------------------------------------------------------------
+
+-- 01: "whole state". Each step of a run that took no effect left all of the runtime as it was, not only what the rules know of it.
+unfoldable pub Whole : {rt last : Runtime} {is : List Input} {outs : List Output} → Run LentStep rt is outs last → Type 0
+Whole here = Unit
+Whole (then {s = rt} {t = next} {out = out} one more) = (tookEffect out ≡ false → next ≡ rt) × Whole more

@@ -385,18 +385,18 @@ pub struct Observation {
     pub state: u32,
 }
 
+// In an order that leaves few gaps: 128 bytes.
 pub struct Receipt {
     pub boot_id: u64,
     pub principal: u64,
     pub safety_flags: u32,
+    pub capability: u16,
+    pub resource: u8,
+    pub decision: Decision,
     pub receipt_id: u64,
     pub action_id: u64,
     pub sequence: u64,
-    pub capability: u16,
-    pub resource: u8,
     pub lease_id: u64,
-    pub decision: Decision,
-    pub reason: Reason,
     pub epoch: u64,
     pub received_at: u64,
     pub admitted_at: u64,
@@ -407,6 +407,7 @@ pub struct Receipt {
     pub post_state: u32,
     // For a duplicate, the receipt that consumed the id; else 0.
     pub original_receipt: u64,
+    pub reason: Reason,
     pub dispatched: bool,
     pub observed_valid: bool,
 }

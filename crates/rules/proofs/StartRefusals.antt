@@ -9,14 +9,14 @@ use Rattle.rules.specs.Lists.{Mem}
 use Rattle.rules.specs.Book.{Book}
 use Rattle.rules.specs.Interaction.{Interaction, Done, Observe, Execute, Fallback, Record}
 use Rattle.rules.specs.Rules.{usedAxes}
-use Rattle.rules.specs.Protocol.{Call, Reply, FellBack, Reading, Input, Calls, Replies, Reads, Output, StartRefused, Started, Hands, Answers, Reminds, Refuses, Shows, NoRuntime, Start, Phase, Gone, bookIn, begin, proceed, refusedStart, startFrom, startUnless, start, startReplied, called, replied, shown, effect, apply, react}
+use Rattle.rules.specs.Protocol.{Call, Reply, FellBack, Reading, Input, Calls, Replies, Reads, Output, StartRefused, Started, Hands, Answers, Reminds, Refuses, Shows, NoRuntime, Start, Phase, Gone, bookIn, awaitedIn, begin, proceed, refusedStart, startFrom, startUnless, start, startReplied, called, replied, shown, effect, apply, react}
 use Rattle.rules.specs.Log.{History, phaseAfter, outputAfter, Event, Took, Replied, Log, handed, tookEffect, arrived, logged, logOf, bookBefore, callOf, startReplies}
 use Rattle.rules.specs.SoundStart.{SoundStart, StartFails}
 use Rattle.rules.specs.Turns.{awaited}
 use Rattle.rules.specs.Refusals.{StartupFailed, StartRefusals, Unaltered}
 use Rattle.rules.proofs.Soundness.{sound-start, start-sound, start-fails, fails-start}
 use Rattle.rules.proofs.Steps.{Stands, atObserve, atExecute, atFallback, atRecord, eventAt, effective, start-effective, Stays, Step, stays, tries, begins, answers, step}
-use Rattle.rules.proofs.Turns.{awaitedIn, stands}
+use Rattle.rules.proofs.Turns.{stands}
 use Rattle.rules.proofs.Startup.{not-none, none-bad, Progress, progress, goes-on-so}
 
 -- ---- an input that is turned away

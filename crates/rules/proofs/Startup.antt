@@ -20,7 +20,7 @@ use Rattle.rules.specs.Book.{Book}
 use Rattle.rules.specs.Interaction.{Answer, Interaction, Done, Observe, Execute, Fallback, Record}
 use Rattle.rules.specs.Admission.{axes}
 use Rattle.rules.specs.Rules.{select, usedAxes, meetsEstop}
-use Rattle.rules.specs.Protocol.{Call, Reply, FellBack, Input, Item, ItemExecute, ItemFallback, Hands, Start, Phase, Starting, Gone, Idle, Waiting, bookIn, opening, begin, proceed, refusedStart, startFrom, startUnless, start, startReplied, called, replied, effect, apply, react}
+use Rattle.rules.specs.Protocol.{Call, Reply, FellBack, Input, Item, ItemExecute, ItemFallback, Hands, Start, Phase, Starting, Gone, Idle, Waiting, bookIn, awaitedIn, opening, begin, proceed, refusedStart, startFrom, startUnless, start, startReplied, called, replied, effect, apply, react}
 use Rattle.rules.specs.Log.{History, phaseAfter, outputAfter, Took, Replied, Handed, Ended, Log, handed, arrived, logged, logOf, callOf, unlessCalled, startItems, startReplies}
 use Rattle.rules.specs.SoundStart.{SoundStart}
 use Rattle.rules.specs.Claim.{StartedUp, StartedOn, OpensSo, Increasing, AreUsed}
@@ -28,7 +28,7 @@ use Rattle.rules.specs.Turns.{awaited}
 use Rattle.rules.specs.Refusals.{StartupFailed}
 use Rattle.rules.proofs.Soundness.{sound-start, start-sound}
 use Rattle.rules.proofs.Axes.{low-axis, mem-used, namer, named-used}
-use Rattle.rules.proofs.Turns.{awaitedIn, stands, newest}
+use Rattle.rules.proofs.Turns.{stands, newest}
 use Rattle.rules.proofs.Steps.{Stands, atObserve, atExecute, atFallback, atRecord, eventAt, handed-event, effective, start-effective, Step, stays, tries, begins, answers, step}
 
 abbrev pub tryItems : List ℕ → List Item

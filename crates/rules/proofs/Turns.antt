@@ -10,16 +10,10 @@ use Rattle.rules.specs.Book.{Book}
 use Rattle.rules.specs.Interaction.{Interaction, Done, Observe, Execute, Fallback, Record}
 use Rattle.rules.specs.Admission.{isSome}
 use Rattle.rules.specs.Rules.{usedAxes}
-use Rattle.rules.specs.Protocol.{Call, Reply, Observed, Executed, FellBack, Recorded, Reading, Input, Calls, Replies, Reads, Item, ItemFallback, Output, Started, StartRefused, Hands, Answers, Reminds, Refuses, Shows, NoRuntime, Start, Wait, OnObserve, OnExecute, OnFallback, OnRecord, Phase, Starting, Gone, Idle, Waiting, itemOf, bookIn, resume, resumed, begin, proceed, refusedStart, startFrom, startUnless, start, startReplied, called, replied, shown, effect, apply, react}
+use Rattle.rules.specs.Protocol.{Call, Reply, Observed, Executed, FellBack, Recorded, Reading, Input, Calls, Replies, Reads, Item, ItemFallback, Output, Started, StartRefused, Hands, Answers, Reminds, Refuses, Shows, NoRuntime, Start, Wait, OnObserve, OnExecute, OnFallback, OnRecord, Phase, Starting, Gone, Idle, Waiting, itemOf, bookIn, awaitedIn, resume, resumed, begin, proceed, refusedStart, startFrom, startUnless, start, startReplied, called, replied, shown, effect, apply, react}
 use Rattle.rules.specs.Log.{History, phaseAfter, outputAfter, Event, Took, Replied, Log, logOf, handed, arrived, logged, tookEffect, callOf}
 use Rattle.rules.specs.Turns.{awaited, fits, Proceeds, Turns}
 use Rattle.rules.proofs.Steps.{eventAt, handed-event, effective, start-effective, after-try, Step, stays, tries, begins, answers, step}
-
-abbrev pub awaitedIn : Phase → Option Item
-awaitedIn (Starting s axis rest good) = some (ItemFallback axis Startup)
-awaitedIn Gone = none
-awaitedIn (Idle b) = none
-awaitedIn (Waiting w) = some (itemOf w)
 
 -- ---- the newest event is where the runtime stands
 

@@ -170,6 +170,13 @@ bookIn Gone = none
 bookIn (Idle b) = some b
 bookIn (Waiting w) = some (waitBook w)
 
+-- the item whose reply is awaited
+abbrev pub awaitedIn : Phase → Option Item
+awaitedIn (Starting s axis rest good) = some (ItemFallback axis Startup)
+awaitedIn Gone = none
+awaitedIn (Idle b) = none
+awaitedIn (Waiting w) = some (itemOf w)
+
 -- what follows a reply, if it is of the awaited kind
 unfoldable pub resume : Wait → Reply → Option Interaction
 resume (OnObserve axis b k) (Observed seen) = some (k seen)

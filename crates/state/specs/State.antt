@@ -22,14 +22,14 @@ use Rattle.model.specs.declared.Receipt.{Receipt}
 use Rattle.model.specs.declared.Renewal.{Renewal}
 use Rattle.model.specs.declared.Replay.{Replay}
 use Rattle.model.specs.declared.Submission.{Submission}
-use Rattle.model.specs.Reasons.{replyAwaited, noReplyAwaited, otherReplyAwaited}
+use Rattle.model.specs.Reasons.{invalidBootId, invalidConfig, invalidCapability, duplicateCapability, startupFailed, replyAwaited, noReplyAwaited, otherReplyAwaited}
 use Rattle.model.specs.Records.{noLease}
 use Rattle.model.specs.Soundness.{axisUsed, sound}
 use Rattle.rules.specs.Admission.{axes, firstFailing, acquireChecks, renewChecks, heldAxis, isSome, validate}
 use Rattle.rules.specs.Book.{Book, leaseAt}
 use Rattle.rules.specs.Interaction.{Returned, Polled, Succeeded, Leased, Refused, Submitted, Interaction, Done, Observe}
 use Rattle.rules.specs.Lists.{Mem}
-use Rattle.rules.specs.Protocol.{Item, ItemObserve, ItemExecute, ItemFallback, ItemRecord, Output, Hands, Answers, Reminds, Refuses, Phase, Idle, Waiting as Waits, OnObserve, OnExecute, OnFallback, OnRecord, Reaction}
+use Rattle.rules.specs.Protocol.{Item, ItemObserve, ItemExecute, ItemFallback, ItemRecord, Output, NoRuntime, Started, StartRefused, Hands, Answers, Reminds, Refuses, Phase, Idle, Waiting as Waits, OnObserve, OnExecute, OnFallback, OnRecord, Reaction}
 use Rattle.rules.specs.Receipts.{event, notSent}
 use Rattle.rules.specs.Receipts as Receipts
 use Rattle.rules.specs.Rules.{recordReceipt, refreshState, fallbacks, trip, staleness, expiries, preconditions, sense, recover, recoveries, grant, renewed, canceled, storm, fail, dispatch, verify, admit}
@@ -290,6 +290,13 @@ outputOf Answer.Item s = Hands (itemOf s)
 outputOf Answer.ReplyAwaited s = Reminds replyAwaited (itemOf s)
 outputOf Answer.OtherAwaited s = Reminds otherReplyAwaited (itemOf s)
 outputOf Answer.NoReplyAwaited s = Refuses noReplyAwaited
+outputOf Answer.NoRuntime s = NoRuntime
+outputOf Answer.Started s = Started
+outputOf Answer.InvalidBootId s = StartRefused invalidBootId
+outputOf Answer.InvalidConfig s = StartRefused invalidConfig
+outputOf Answer.InvalidCapability s = StartRefused invalidCapability
+outputOf Answer.DuplicateCapability s = StartRefused duplicateCapability
+outputOf Answer.StartupFailed s = StartRefused startupFailed
 
 unfoldable pub reactionOf : Answer → State → Reaction
 reactionOf a s = record { output = outputOf a s; phase = phaseOf s }

@@ -165,8 +165,8 @@ pub struct Why {
     pub reason: Reason,
 }
 
-// What a call or a reply gives: its answer, the next item (`Item`), or a refusal: 111, 113 or 112. A lease, a receipt and a refusal's reason
-// stand in the state.
+// What a start, a call or a reply gives: its answer, the next item (`Item`), or a refusal: 111, 113, 112, or that there is no runtime. A lease, a
+// receipt and a refusal's reason stand in the state. Then that a start is over, and the five ways in which it is refused: 101 to 105.
 pub enum Answer {
     Returned,
     Unraised,
@@ -179,6 +179,13 @@ pub enum Answer {
     ReplyAwaited,
     OtherAwaited,
     NoReplyAwaited,
+    NoRuntime,
+    Started,
+    InvalidBootId,
+    InvalidConfig,
+    InvalidCapability,
+    DuplicateCapability,
+    StartupFailed,
 }
 
 // Where a call goes: to the fallback of an axis, to its answer, or on to what follows its opening tick.

@@ -2,10 +2,6 @@
 //! calls, the same lives for both. The time of the entry is that of a life less that of its
 //! beginning. The decoding and encoding inside it count; the making of the input does not.
 
-use crate::lent::{
-    runtime_speed_acquire_cancel, runtime_speed_leased_tick, runtime_speed_reject,
-    runtime_speed_submit, runtime_speed_tick, Loop,
-};
 use crate::timed;
 use definitions::turns::{Reading, Reply};
 use oracle::life::{Call, Order};
@@ -26,10 +22,10 @@ const TIMED: u64 = 1_000;
 const ROUNDS: usize = 100;
 
 const BOOT: u64 = 1;
-const OWNER: u64 = 7;
+pub const OWNER: u64 = 7;
 /// The time of every call but an idle tick.
-const NOW: u64 = 1;
-const REQUEST: LeaseRequest = LeaseRequest {
+pub const NOW: u64 = 1;
+pub const REQUEST: LeaseRequest = LeaseRequest {
     owner: OWNER,
     resource: 0,
     capabilities: 1 << profile::DRIVE | 1 << profile::STOP,
@@ -57,29 +53,26 @@ const READINGS: [Reading; 4] = [
 ];
 
 /// An operation that is timed.
-pub struct Figure {
-    pub name: &'static str,
+struct Figure {
+    name: &'static str,
     /// Whether a lease stands before the first one.
     leased: bool,
     invalid_limit: u16,
     /// The records of operation n, from 0, at this epoch.
     records: fn(u64, u64) -> Vec<Input>,
     /// The operations with these numbers in the Rust.
-    pub rust: fn(&mut Runtime, Range<u64>),
-    /// The operations as laps of a proved loop over a lent runtime.
-    pub lent: Loop,
+    rust: fn(&mut Runtime, Range<u64>),
     /// At the end of a life: the state, the receipts kept, the decision of the newest.
     end: (RuntimeState, usize, Option<Decision>),
 }
 
-pub const FIGURES: [Figure; 5] = [
+const FIGURES: [Figure; 5] = [
     Figure {
         name: "tick, idle",
         leased: false,
         invalid_limit: 32,
         records: |n, _| vec![Input::Call(Call::Tick { now: n })],
         rust: |runtime, numbers| each(runtime, numbers, |r, n| r.tick(n, &mut Prompt)),
-        lent: runtime_speed_tick,
         end: (RuntimeState::SafeIdle, 0, None),
     },
     Figure {
@@ -88,7 +81,6 @@ pub const FIGURES: [Figure; 5] = [
         invalid_limit: 32,
         records: |_, _| vec![Input::Call(Call::Tick { now: NOW })],
         rust: |runtime, numbers| each(runtime, numbers, |r, _| r.tick(black_box(NOW), &mut Prompt)),
-        lent: runtime_speed_leased_tick,
         end: (RuntimeState::Armed, 1, Some(Decision::Control)),
     },
     Figure {
@@ -97,7 +89,6 @@ pub const FIGURES: [Figure; 5] = [
         invalid_limit: 32,
         records: acquire_cancel_records,
         rust: |runtime, numbers| each(runtime, numbers, acquire_cancel),
-        lent: runtime_speed_acquire_cancel,
         end: (
             RuntimeState::SafeIdle,
             RECEIPT_CAPACITY,
@@ -110,7 +101,6 @@ pub const FIGURES: [Figure; 5] = [
         invalid_limit: 32,
         records: |n, epoch| vec![submit(n + 1, epoch), OBSERVED, EXECUTED, OBSERVED, RECORDED],
         rust: |runtime, numbers| submit_each(runtime, numbers, |n| n + 1),
-        lent: runtime_speed_submit,
         end: (
             RuntimeState::Armed,
             RECEIPT_CAPACITY,
@@ -124,7 +114,6 @@ pub const FIGURES: [Figure; 5] = [
         invalid_limit: u16::MAX,
         records: |_, epoch| vec![submit(0, epoch), RECORDED],
         rust: |runtime, numbers| submit_each(runtime, numbers, |_| 0),
-        lent: runtime_speed_reject,
         end: (
             RuntimeState::Armed,
             RECEIPT_CAPACITY,
@@ -134,7 +123,7 @@ pub const FIGURES: [Figure; 5] = [
 ];
 
 /// A driver that answers at once; the compiler does not know what.
-struct Prompt;
+pub struct Prompt;
 
 impl Driver for Prompt {
     fn observe(&mut self, _: u8) -> Result<Observation, DriverError> {
@@ -153,7 +142,7 @@ impl Driver for Prompt {
 
 /// Does the operations. The compiler knows nothing of the runtime and the number that each finds,
 /// and has to make each answer.
-fn each<T>(runtime: &mut Runtime, numbers: Range<u64>, operation: impl Fn(&mut Runtime, u64) -> T) {
+pub fn each<T>(runtime: &mut Runtime, numbers: Range<u64>, operation: impl Fn(&mut Runtime, u64) -> T) {
     for n in numbers {
         let answer = operation(black_box(&mut *runtime), black_box(n));
         black_box(&answer);
@@ -170,12 +159,12 @@ fn acquire_cancel_records(n: u64, _: u64) -> Vec<Input> {
     vec![ACQUIRE, RECORDED, Input::Call(cancel), FELL_BACK, RECORDED]
 }
 
-fn acquire_cancel(runtime: &mut Runtime, n: u64) -> Result<(), Reason> {
+pub fn acquire_cancel(runtime: &mut Runtime, n: u64) -> Result<(), Reason> {
     black_box(&runtime.acquire(black_box(REQUEST), NOW, &mut Prompt));
     runtime.cancel(OWNER, n + 1, NOW, &mut Prompt)
 }
 
-fn order(number: u64, epoch: u64) -> Action {
+pub fn order(number: u64, epoch: u64) -> Action {
     Action {
         boot_id: BOOT,
         requester: OWNER,
@@ -202,7 +191,7 @@ fn submit(number: u64, epoch: u64) -> Input {
     Input::Call(Call::Submit(order))
 }
 
-fn submit_each(runtime: &mut Runtime, numbers: Range<u64>, number: impl Fn(u64) -> u64) {
+pub fn submit_each(runtime: &mut Runtime, numbers: Range<u64>, number: impl Fn(u64) -> u64) {
     let epoch = runtime.epoch();
     each(runtime, numbers, |runtime, n| {
         let action = black_box(order(number(n), epoch));
@@ -230,7 +219,7 @@ fn started(figure: &Figure) -> Result<Runtime, String> {
 }
 
 /// The Rust before the first operation.
-pub fn prepared(figure: &Figure) -> Result<Runtime, String> {
+fn prepared(figure: &Figure) -> Result<Runtime, String> {
     let mut runtime = started(figure)?;
     if figure.leased {
         runtime

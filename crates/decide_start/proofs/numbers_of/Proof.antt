@@ -1,0 +1,6 @@
+use borrow.Author.Needs.{needs}
+use Rattle.decide_start.proofs.numbers_of.Statement.{statement}
+use Rattle.decide_start.proofs.numbers_of.Tie as tie
+
+pub numbers-of-spec : {M : Type 1} → statement M
+numbers-of-spec = tie.close (tie.spec (λ c κs. search needs) (λ c. rw (c .first-state .ensures)))

@@ -1,0 +1,4 @@
+pub mod Runtimes
+pub mod Kept
+pub mod Promises
+pub mod Stages

@@ -1,8 +1,0 @@
-pub mod Callees
-pub mod Known
-pub mod LoopAcquireCancel
-pub mod LoopLeasedTick
-pub mod LoopReject
-pub mod LoopSubmit
-pub mod LoopTick
-pub mod Standings

@@ -1,3 +1,0 @@
-pub mod Runtimes
-pub mod Kept
-pub mod Promises
