@@ -101,7 +101,7 @@ pub fn number_shown(starting: Starting, number: u64) -> NumberShown
     }
 }
 
-// Faulted stands where nothing does: no host takes it for a stage that may be moved.
+// Faulted stands where nothing does: no host takes it for a carriage that may be moved.
 pub fn state_shown(starting: Starting, mode: Mode) -> StateShown
     ensures { λ r. ⌜ r ≡ stateAt (isStarted (starting .stage)) (mode .state) ⌝ }
 {

@@ -1438,7 +1438,7 @@ pub fn executed(rt: &mut Runtime, ok: bool) -> Answer
     }
 }
 
-// Of a startup fallback too: the last opens the runtime.
+// Of a startup fallback too: the last one's ends the start.
 pub fn fell_back(rt: &mut Runtime, ok: bool) -> Answer
     requires { ⌜ RuntimeSound (now rt) ⌝ }
     ensures { λ r. ⌜ Turns (now (rt .entry)) (now (rt .exit)) r (react (phaseIn (now (rt .entry))) (Replies (FellBackReply ok))) ⌝ }
@@ -1481,7 +1481,7 @@ pub fn item(rt: &Runtime) -> ItemShown
     item_of(waiting, falling, capability, parameters, receipt)
 }
 
-// What `Leased`, `Submitted` and `Refused` speak of.
+// What `Leased`, `Submitted` and `Refused` speak of, right after that answer.
 pub fn answered_lease(rt: &Runtime) -> Lease
     requires { ⌜ RuntimeSound (now rt) ⌝ }
     ensures { λ r. ⌜ outputOf Answered.Leased (stateIn (now (rt .entry))) ≡ Answers (Leased r) ⌝ }

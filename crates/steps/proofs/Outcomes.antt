@@ -1,4 +1,4 @@
--- Which receipts an outcome leaves kept, and what it is answered. Assumes nothing.
+-- Which receipts an outcome leaves kept. Assumes nothing.
 use mathlib.Core.Bool.{true, false, false≢true}
 use mathlib.Core.List.{List}
 use mathlib.Core.Path.{_≡_, refl, sym}
@@ -10,9 +10,7 @@ use Rattle.machine.specs.declared.Core.{Core}
 use Rattle.machine.specs.declared.Kind.{Kind}
 use Rattle.machine.specs.declared.Kind.the-variants as Kind
 use Rattle.machine.specs.Machine.{keptAt, keptAfter}
-use Rattle.machine.specs.Machine as Machine
-use Rattle.start.specs.declared.Starting.{Starting}
-use Rattle.steps.specs.Runtimes.{answerOf, outputOfAnswer, storesAt, stores}
+use Rattle.steps.specs.Runtimes.{storesAt, stores}
 
 -- whether a receipt is kept
 kept-when : (w : Awaited) (r : Receipt) (kept : List Receipt) → storesAt w ≡ true → keptAt w r kept ≡ keep 64 kept r
@@ -57,15 +55,3 @@ after-unless Kind.Submitted core kept e = refl
 after-unless Kind.Item core kept e = kept-unless (core .waiting .awaited) (core .receipt) kept e
 after-unless (Kind.Reminder number) core kept e = refl
 after-unless Kind.NoReplyAwaited core kept e = refl
-
-pub output-of : (k : Kind) (s : Starting) (core : Core) → outputOfAnswer (answerOf k) s core ≡ Machine.outputAt k core
-unfolding outputOfAnswer answerOf Machine.outputAt
-output-of Kind.Returned s core = refl
-output-of (Kind.Polled seen) s core = refl
-output-of Kind.Succeeded s core = refl
-output-of Kind.Leased s core = refl
-output-of (Kind.Refused reason) s core = refl
-output-of Kind.Submitted s core = refl
-output-of Kind.Item s core = refl
-output-of (Kind.Reminder number) s core = refl
-output-of Kind.NoReplyAwaited s core = refl

@@ -374,13 +374,13 @@ pub fn table() -> Result<(), String> {
         println!("{name:<30} {records:>7} {proved:>10.1} {single:>10.1} {rust:>10.1} {ratio:>7.2}");
     }
     let (proved, rust) = (proved_bytes()?, size_of::<Runtime>());
-    println!("{:<30} {:>18} {:>21}", "bytes of state", proved, rust);
+    println!("{:<30} {:>18} {:>21}", "bytes of state, lent", proved, rust);
     Ok(())
 }
 
-/// The bytes of the proved code's state, as the fact in its proofs has them.
+/// The bytes of a lent runtime, as the fact in its proofs has them.
 fn proved_bytes() -> Result<usize, String> {
-    include_str!("../../../crates/steps/proofs/Sizes.antt")
+    include_str!("../../../crates/runtime/proofs/Sizes.antt")
         .lines()
         .find(|line| line.starts_with("pub runtime-bytes : "))
         .and_then(|line| line.rsplit(' ').next()?.parse().ok())
