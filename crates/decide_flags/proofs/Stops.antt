@@ -22,8 +22,6 @@ use Rattle.state.specs.declared.Fixed.{Fixed}
 use Rattle.state.specs.declared.Numbers.{Numbers}
 use Rattle.state.proofs.Courses.{SameCounts, sound-from, leads-from}
 use Rattle.state.proofs.Turns.{call-waits, call-begins}
-use Rattle.decide_flags.specs.Flags.{PollsAs}
-use Rattle.decide_flags.specs.declared.Poll.the-variants as Poll
 
 abbrev stopping : ℕ → ℕ → Numbers → Numbers
 stopping flags time n =
@@ -72,32 +70,3 @@ unfolding withEstopSeen bookOf afterTrip
 polls-so f n raised time k t q h s =
     let same : SameCounts n (seeing raised n) = (refl, refl, refl, refl) in
     leads-from same refl (k t q h (sound-from same s))
-
--- a poll -----------------------------------------------------------------------------------------------------------------
-
-idle : (w : Awaited) (h : Hand) (q : Asked) (b : Book) → waits w ≡ false → phaseAt w h q b ≡ Idle b
-unfolding phaseAt
-idle Awaited.Nothing h q b e = refl
-idle Awaited.ObserveBefore h q b e = absurd (false≢true (sym e))
-idle Awaited.Execute h q b e = absurd (false≢true (sym e))
-idle Awaited.ObserveAfter h q b e = absurd (false≢true (sym e))
-idle Awaited.Fallback h q b e = absurd (false≢true (sym e))
-idle Awaited.Record h q b e = absurd (false≢true (sym e))
-
-module _ (s : State) (raised now : ℕ) where
-  pub poll-waits : waits (s .hand .waiting .awaited) ≡ true → PollsAs Poll.Waits s raised now
-  unfolding PollsAs
-  poll-waits w = call-waits s (PollEstop raised now) w
-
-  module _ (w : waits (s .hand .waiting .awaited) ≡ false) where
-    unraised : reactionOf Answer.Unraised s ≡ proceed (Done (bookIn s) (Polled false))
-    unfolding reactionOf outputOf phaseOf proceed
-    unraised = rw (idle (s .hand .waiting .awaited) (s .hand) (s .asked) (bookIn s) w)
-
-    pub poll-same : raised ≡ s .numbers .«estop_seen» → PollsAs Poll.Same s raised now
-    unfolding PollsAs begin pollEstop bookOf
-    poll-same e = unraised ∙ sym (call-begins s (PollEstop raised now) w ∙ rw (eq-eqb raised (s .numbers .«estop_seen») e))
-
-    pub poll-raised : (raised ≡ s .numbers .«estop_seen» → ⊥) → PollsAs Poll.Raised s raised now
-    unfolding PollsAs begin pollEstop bookOf
-    poll-raised e = sym (call-begins s (PollEstop raised now) w ∙ rw (ne-eqb raised (s .numbers .«estop_seen») e))

@@ -12,13 +12,11 @@ use state::Falling;
 use state::Fixed;
 use state::Mode;
 use state::Numbers;
-use state::Waiting;
 use state::bump_counter;
 use state::falls;
 use state::first_used;
 use state::is_exhausted;
 use state::is_stale;
-use state::is_waiting;
 use state::refreshed;
 use state::refused;
 use state::returned;
@@ -27,15 +25,16 @@ use state::trips;
 ghost use Prim.Native.Nat.{ℕ, _≤_};
 ghost use mathlib.Core.Bool.{true, not};
 ghost use mathlib.Core.Path.{_≡_};
+ghost use lib.Dec.{eqb};
 ghost use Rattle.model.specs.Words.{permits};
 ghost use Rattle.rules.specs.Admission.{holdsOf};
 ghost use Rattle.rules.specs.Interaction.{Done, Returned, Polled};
 ghost use Rattle.rules.specs.Rules.{preconditions as preconditionsRule, sense, stopTime, emergencyStop, recoveries as recoveriesRule, recover};
 ghost use Rattle.rules.specs.With.{withEstopSeen};
 ghost use Rattle.state.specs.Axes.{axesFrom, usedFrom};
-ghost use Rattle.state.specs.State.{activeIn, Tables, State, bookOf, flagsEnd, afterTrip, InBounds};
+ghost use Rattle.state.specs.State.{activeIn, Tables, bookOf, flagsEnd, afterTrip, InBounds};
 ghost use Rattle.state.specs.Stores.{Settles, Takes, TakesWhere};
-ghost use Rattle.decide_flags.specs.Flags.{ShowsForbidden, stamped, PollsAs};
+ghost use Rattle.decide_flags.specs.Flags.{ShowsForbidden, stamped};
 
 // update_state -------------------------------------------------------------------------------------------------------------
 
@@ -145,23 +144,11 @@ pub fn polled(fixed: Fixed, numbers: Numbers, raised: u32, time: u64) -> Course
     stopped(fixed, next, time, AfterTrip::Poll)
 }
 
-// What a poll finds: a reply is awaited, the raise number last seen, or another one.
-pub enum Poll {
-    Waits,
-    Same,
-    Raised,
-}
-
-pub fn poll_of(waiting: Waiting, seen: u32, raised: u32) -> Poll
-    ensures { λ r. ⌜ ((s : State) (now : ℕ) → s .hand .waiting ≡ waiting → s .numbers .«estop_seen» ≡ seen → PollsAs r s raised now) ⌝ }
+// The raise number is the one last seen.
+pub fn is_seen(seen: u32, raised: u32) -> bool
+    ensures { λ r. ⌜ r ≡ eqb raised seen ⌝ }
 {
-    if is_waiting(waiting) {
-        return Poll::Waits;
-    }
-    if raised == seen {
-        return Poll::Same;
-    }
-    Poll::Raised
+    raised == seen
 }
 
 // recover_local --------------------------------------------------------------------------------------------------------------

@@ -114,3 +114,16 @@ abbrev pub isStarted : Stage → Bool
 isStarted Stage.Trying = false
 isStarted Stage.Gone = false
 isStarted Stage.Started = true
+
+-- who is heard -----------------------------------------------------------------------------------------------------------
+
+-- what a call meets where it may not begin, and a reply where none is awaited of its kind
+abbrev pub awayBy : Stage → Answer
+awayBy Stage.Trying = Answer.ReplyAwaited
+awayBy Stage.Gone = Answer.NoRuntime
+awayBy Stage.Started = Answer.ReplyAwaited
+
+abbrev pub unheardBy : Stage → Answer
+unheardBy Stage.Trying = Answer.OtherAwaited
+unheardBy Stage.Gone = Answer.NoReplyAwaited
+unheardBy Stage.Started = Answer.NoReplyAwaited

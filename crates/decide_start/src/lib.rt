@@ -12,8 +12,9 @@ use state::Mode;
 use state::Numbers;
 use state::Waiting;
 use state::first_used;
+use state::is_waiting;
 ghost use Prim.Native.Nat.{ℕ, _<_, min};
-ghost use mathlib.Core.Bool.{cond, true, false};
+ghost use mathlib.Core.Bool.{cond, true, false, not, _&&_};
 ghost use mathlib.Core.List.{List, [], _∷_, _++_};
 ghost use mathlib.Core.Path.{_≡_};
 ghost use lib.ListN.{getD, take};
@@ -23,7 +24,8 @@ ghost use Rattle.model.specs.Soundness.{axisUsed, idTaken};
 ghost use Rattle.rules.specs.Protocol.{badConfig, refusedRecord, refusedStart};
 ghost use Rattle.rules.specs.Rules.{meetsEstop};
 ghost use Rattle.state.specs.Axes.{firstUsed};
-ghost use Rattle.decide_start.specs.Starts.{Listing, startOn, refusalOf, isRefusal, Fixes, numbersAt, endedBy, trialOf, firstTrial, isStarted};
+ghost use Rattle.state.specs.State.{waits};
+ghost use Rattle.decide_start.specs.Starts.{Listing, startOn, refusalOf, isRefusal, Fixes, numbersAt, endedBy, trialOf, firstTrial, isStarted, awayBy, unheardBy};
 
 // The first records of a list and how many there are; 17 stands for more than 16. A list that long is refused by its length.
 pub struct Listed {
@@ -337,4 +339,48 @@ pub fn is_started(starting: Starting) -> bool
         Stage::Gone => false,
         Stage::Started => true,
     }
+}
+
+// who is heard -----------------------------------------------------------------------------------------------------------
+
+// Whether a call may begin.
+pub fn may_begin(starting: Starting, waiting: Waiting) -> bool
+    ensures { λ r. ⌜ r ≡ (isStarted (starting .stage) && not (waits (waiting .awaited))) ⌝ }
+{
+    if is_started(starting) {
+        !is_waiting(waiting)
+    } else {
+        false
+    }
+}
+
+// What a call meets where it may not: a reply is awaited, or there is no runtime.
+pub fn turned_away(starting: Starting) -> Answer
+    ensures { λ r. ⌜ r ≡ awayBy (starting .stage) ⌝ }
+{
+    let stage = starting.stage;
+    match stage {
+        Stage::Trying => Answer::ReplyAwaited,
+        Stage::Gone => Answer::NoRuntime,
+        Stage::Started => Answer::ReplyAwaited,
+    }
+}
+
+// What a reply of another kind than a fallback's meets where there is no runtime.
+pub fn unheard(starting: Starting) -> Answer
+    ensures { λ r. ⌜ r ≡ unheardBy (starting .stage) ⌝ }
+{
+    let stage = starting.stage;
+    match stage {
+        Stage::Trying => Answer::OtherAwaited,
+        Stage::Gone => Answer::NoReplyAwaited,
+        Stage::Started => Answer::NoReplyAwaited,
+    }
+}
+
+// No axis has failed so far, and this one has not.
+pub fn still_good(good: bool, ok: bool) -> bool
+    ensures { λ r. ⌜ r ≡ (good && ok) ⌝ }
+{
+    if good { ok } else { false }
 }

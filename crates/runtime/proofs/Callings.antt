@@ -24,7 +24,7 @@ use Rattle.state.specs.declared.CallKind.{CallKind}
 use Rattle.state.specs.declared.CallKind.the-variants as CallKind
 use Rattle.state.specs.declared.Pending.{Pending}
 use Rattle.state.proofs.Turns.{call-waits, call-begins}
-use Rattle.decide_start.specs.Starts.{isStarted}
+use Rattle.decide_start.specs.Starts.{isStarted, awayBy}
 use Rattle.decide_start.specs.declared.Stage.{Stage}
 use Rattle.decide_start.specs.declared.Stage.the-variants as Stage
 use Rattle.decide_tick.specs.declared.Begun.{Begun}
@@ -32,7 +32,7 @@ use Rattle.decide_tick.specs.declared.Begun.the-variants.{Quiet, Busy}
 use Rattle.runtime.specs.declared.Runtime.{Runtime}
 use Rattle.runtime.specs.Promises.{Good, MovesIn, TurnsIn, BegunAs, Begins}
 use Rattle.runtime.specs.Runtimes.{askedIn, askedAt, handIn, stateIn, bookOn}
-use Rattle.runtime.specs.Stages.{phaseAtStage, phaseIn, SoundAt, RuntimeSound, Moves, Turns, awayBy}
+use Rattle.runtime.specs.Stages.{phaseAtStage, phaseIn, SoundAt, RuntimeSound, Moves, Turns}
 use Rattle.runtime.proofs.Courses.{is-yes, is-no}
 use Rattle.runtime.proofs.Onward.{busy-loud}
 use Rattle.runtime.proofs.Turned.{goes-on}

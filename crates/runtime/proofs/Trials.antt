@@ -20,11 +20,11 @@ use Rattle.state.proofs.Axes.{used-first, used-none}
 use Rattle.decide_start.specs.declared.Stage.{Stage}
 use Rattle.decide_start.specs.declared.Stage.the-variants as Stage
 use Rattle.decide_start.specs.declared.Trial.{Trial}
-use Rattle.decide_start.specs.Starts.{triedAt, endedBy, overBy, trialOf, isStarted}
+use Rattle.decide_start.specs.Starts.{triedAt, endedBy, overBy, trialOf, isStarted, unheardBy}
 use Rattle.runtime.specs.declared.Runtime.{Runtime}
 use Rattle.runtime.specs.Promises.{Kept, Good, TurnsIn}
 use Rattle.runtime.specs.Runtimes.{tablesIn, askedIn, handIn, stateIn}
-use Rattle.runtime.specs.Stages.{startIn, tryingIn, phaseAtStage, phaseIn, Opened, Tries, SoundAt, RuntimeSound, Moves, Turns, unheardBy}
+use Rattle.runtime.specs.Stages.{startIn, tryingIn, phaseAtStage, phaseIn, Opened, Tries, SoundAt, RuntimeSound, Moves, Turns}
 use Rattle.runtime.proofs.Callings.{sound-good, turns-so}
 use Rattle.runtime.proofs.Turned.{isAway, away}
 

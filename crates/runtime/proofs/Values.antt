@@ -80,9 +80,6 @@ use Rattle.decide_lease.proofs.Granting.Laws as tGranting′
 use Rattle.decide_lease.specs.declared.Renewing.{Renewing}
 use Rattle.decide_lease.proofs.Renewing as tRenewing
 use Rattle.decide_lease.proofs.Renewing.Laws as tRenewing′
-use Rattle.decide_flags.specs.declared.Poll.{Poll}
-use Rattle.decide_flags.proofs.Poll as tPoll
-use Rattle.decide_flags.proofs.Poll.Laws as tPoll′
 use Rattle.decide_tick.specs.declared.Begun.{Begun}
 use Rattle.decide_tick.proofs.Begun as tBegun
 use Rattle.decide_tick.proofs.Begun.Laws as tBegun′
@@ -482,9 +479,6 @@ vGranting x = LL.val tGranting.the-type tGranting′.the-laws x
 
 abbrev pub vRenewing : Renewing → Val
 vRenewing x = LL.val tRenewing.the-type tRenewing′.the-laws x
-
-abbrev pub vPoll : Poll → Val
-vPoll x = EL.val tPoll.the-type tPoll′.the-laws x
 
 abbrev pub vBegun : Begun → Val
 vBegun x = EL.val tBegun.the-type tBegun′.the-laws x

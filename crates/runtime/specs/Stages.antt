@@ -19,7 +19,6 @@ use Rattle.state.specs.State.{leaseIn, phaseOf, outputOf, Sound}
 use Rattle.state.specs.declared.AfterFallback.the-variants.{Trip}
 use Rattle.state.specs.declared.AfterTrip.the-variants.{Return}
 use Rattle.state.specs.declared.Answer.{Answer}
-use Rattle.state.specs.declared.Answer.the-variants as Answer
 use Rattle.state.specs.declared.Awaited.the-variants.{Nothing, Fallback}
 use Rattle.state.specs.declared.Falling.{Falling}
 use Rattle.decide_read.specs.Shown.{noConfig, noSnapshot, numberSays, stateSays, configSays, snapshotSays, leaseSays, capabilitySays, receiptSays}
@@ -98,17 +97,6 @@ pub record Moves (rt : Runtime) (answer : Answer) (x : Reaction) : Type 0 where
 pub record Turns (h h′ : Runtime) (answer : Answer) (x : Reaction) : Type 0 where
   pub moves : Moves h′ answer x
   pub unaltered : turnsAway answer ≡ true → h′ ≡ h
-
--- what a call meets where it may not begin, and a reply where none is awaited of its kind
-abbrev pub awayBy : Stage → Answer
-awayBy Stage.Trying = Answer.ReplyAwaited
-awayBy Stage.Gone = Answer.NoRuntime
-awayBy Stage.Started = Answer.ReplyAwaited
-
-abbrev pub unheardBy : Stage → Answer
-unheardBy Stage.Trying = Answer.OtherAwaited
-unheardBy Stage.Gone = Answer.NoReplyAwaited
-unheardBy Stage.Started = Answer.NoReplyAwaited
 
 -- a start ----------------------------------------------------------------------------------------------------------------
 

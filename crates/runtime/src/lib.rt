@@ -2,6 +2,7 @@
 // its own: no other crate can put a lease into the table or lower a counter. specs/Runtimes says which state (crate `state`) it is.
 use decide_flags::is_forbidden;
 use decide_flags::is_same;
+use decide_flags::is_seen;
 use decide_flags::polled;
 use decide_flags::recovered;
 use decide_flags::sensed;
@@ -67,9 +68,13 @@ use decide_start::Starting;
 use decide_start::first_trial;
 use decide_start::fixed_of;
 use decide_start::is_started;
+use decide_start::may_begin;
 use decide_start::numbers_of;
 use decide_start::refused_start;
+use decide_start::still_good;
 use decide_start::tried;
+use decide_start::turned_away;
+use decide_start::unheard;
 use decide_tick::Begun;
 use decide_tick::is_due;
 use decide_tick::opened;
@@ -114,15 +119,13 @@ use state::Why;
 use state::bump_counter;
 use state::first_used;
 use state::id_of;
-use state::is_waiting;
 use state::owner_of;
 use state::trips;
 ghost use Prim.Native.Nat.{_+_, _-_, _%_, _≤_, _<_};
-ghost use mathlib.Core.Bool.{true, not, _&&_};
+ghost use mathlib.Core.Bool.{true};
 ghost use mathlib.Core.List.{List};
 ghost use mathlib.Core.Option.{some, none};
 ghost use mathlib.Core.Path.{_≡_};
-ghost use lib.Dec.{eqb};
 ghost use lib.ListN.{getD};
 ghost use Rattle.model.specs.declared.Capability.{Capability as CapabilityRecord};
 ghost use Rattle.model.specs.Records.{noLease};
@@ -134,18 +137,18 @@ ghost use Rattle.rules.specs.Receipts.{axisOr255};
 ghost use Rattle.rules.specs.Rules.{trip as tripRule, tick as tickRule, sense as senseRule, emergencyStop, recover, grant as grantRule, renewed as renewedRule, canceled as canceledRule, original as originalRule, reject as rejectRule, admit as admitRule, fail as failRule, complete as completeRule};
 ghost use Rattle.rules.specs.With.{withEstopSeen};
 ghost use Rattle.state.specs.Axes.{firstDue, firstForbidden, firstHeld, usedFrom};
-ghost use Rattle.state.specs.State.{leaseIn, progressOf, afterTick, afterFallback, afterFellBack, phaseOf, outputOf, waits, InBounds};
+ghost use Rattle.state.specs.State.{leaseIn, progressOf, afterTick, afterFallback, afterFellBack, phaseOf, outputOf, InBounds};
 ghost use Rattle.state.specs.declared.Answer.the-variants as Answered;
 ghost use Rattle.state.specs.Stores.{without, soonestWith, goesOn, awaiting as awaitingFor};
 ghost use Rattle.state.specs.declared.Awaited.the-variants.{Nothing, ObserveAfter, Record};
 ghost use Rattle.decide_reply.specs.Replies.{observationIn, seenBy};
 ghost use Rattle.decide_resume.specs.Searches.{ShowsSought};
 ghost use Rattle.decide_read.specs.Shown.{shownItem};
-ghost use Rattle.decide_start.specs.Starts.{Listing, startOn, isStarted};
+ghost use Rattle.decide_start.specs.Starts.{Listing, startOn};
 ghost use Rattle.runtime.specs.Kept.{Indexed, PlacesAs, waitsBy, clears, followedIn};
 ghost use Rattle.runtime.specs.Promises.{Kept, Good, MovesIn, TurnsIn, Leaves, PlacesIn, isQuiet, Begins, Tightens, spareOr, SoonestIn, FoundIn, EntryIn, hitOf, HitIn};
 ghost use Rattle.runtime.specs.Runtimes.{stateIn, tablesIn, askedIn, askedAt, orderIn, handIn, bookOn};
-ghost use Rattle.runtime.specs.Stages.{startIn, tryingIn, phaseIn, startingOn, Empties, Opened, Tries, RuntimeSound, Moves, Turns, awayBy, unheardBy, StateReads, NumberReads, LeaseReads, CapabilityReads, ConfigReads, SnapshotReads, ReceiptReads};
+ghost use Rattle.runtime.specs.Stages.{startIn, tryingIn, phaseIn, startingOn, Empties, Opened, Tries, RuntimeSound, Moves, Turns, StateReads, NumberReads, LeaseReads, CapabilityReads, ConfigReads, SnapshotReads, ReceiptReads};
 
 // The places of the receipts: the index and the slot numbers of its two circles.
 pub struct Places {
@@ -1170,12 +1173,6 @@ fn try_from(rt: &mut Runtime, from: u8, good: bool) -> Answer
     trial.answer
 }
 
-fn both(a: bool, b: bool) -> bool
-    ensures { λ r. ⌜ r ≡ (a && b) ⌝ }
-{
-    if a { b } else { false }
-}
-
 // The reply to a startup fallback: the next used axis, even after a failure.
 fn try_next(rt: &mut Runtime, ok: bool) -> Answer
     requires { ⌜ Tries (now rt) ⌝ }
@@ -1183,34 +1180,11 @@ fn try_next(rt: &mut Runtime, ok: bool) -> Answer
 {
     let axis = rt.falling.axis;
     let starting = rt.starting;
-    let good = both(starting.good, ok);
+    let good = still_good(starting.good, ok);
     try_from(rt, axis + 1, good)
 }
 
 // calls ------------------------------------------------------------------------------------------------------------------
-
-// Whether a call may begin.
-fn may_begin(starting: Starting, waiting: Waiting) -> bool
-    ensures { λ r. ⌜ r ≡ (isStarted (starting .stage) && not (waits (waiting .awaited))) ⌝ }
-{
-    if is_started(starting) {
-        !is_waiting(waiting)
-    } else {
-        false
-    }
-}
-
-// What a call meets where it may not: a reply is awaited, or there is no runtime.
-fn turned_away(starting: Starting) -> Answer
-    ensures { λ r. ⌜ r ≡ awayBy (starting .stage) ⌝ }
-{
-    let stage = starting.stage;
-    match stage {
-        Stage::Trying => Answer::ReplyAwaited,
-        Stage::Gone => Answer::NoRuntime,
-        Stage::Started => Answer::ReplyAwaited,
-    }
-}
 
 fn asking(kind: CallKind, flags: u32, time: u64, owner: u64, lease_id: u64) -> Pending
     ensures { λ r. ⌜ r ≡ record { kind = kind; flags = flags; now = time; owner = owner; «lease_id» = «lease_id» } ⌝ }
@@ -1277,12 +1251,6 @@ pub fn emergency_stop(rt: &mut Runtime, time: u64) -> Answer
     } else {
         turned_away(starting)
     }
-}
-
-fn is_seen(seen: u32, raised: u32) -> bool
-    ensures { λ r. ⌜ r ≡ eqb raised seen ⌝ }
-{
-    raised == seen
 }
 
 // A poll of an idle runtime: the raise number last seen alters nothing.
@@ -1401,18 +1369,6 @@ pub fn submit(rt: &mut Runtime, submission: Submission) -> Answer
 }
 
 // replies of the driver --------------------------------------------------------------------------------------------------
-
-// What a reply of another kind than a fallback's meets where there is no runtime.
-fn unheard(starting: Starting) -> Answer
-    ensures { λ r. ⌜ r ≡ unheardBy (starting .stage) ⌝ }
-{
-    let stage = starting.stage;
-    match stage {
-        Stage::Trying => Answer::OtherAwaited,
-        Stage::Gone => Answer::NoReplyAwaited,
-        Stage::Started => Answer::NoReplyAwaited,
-    }
-}
 
 pub fn observed(rt: &mut Runtime, reply: Observed) -> Answer
     requires { ⌜ RuntimeSound (now rt) ⌝ }

@@ -81,21 +81,21 @@ use Rattle.runtime.proofs.observed_on as c-observed_on
 use Rattle.runtime.proofs.observed_on.Symbol as c-observed_on-def
 use Rattle.runtime.proofs.observed_on.Symbol.{name as #runtime·observed-on}
 use Rattle.runtime.proofs.observed_on.Met as c-observed_on-thm
-use Rattle.runtime.proofs.unheard as c-unheard
-use Rattle.runtime.proofs.unheard.Symbol as c-unheard-def
-use Rattle.runtime.proofs.unheard.Symbol.{name as #runtime·unheard}
-use Rattle.runtime.proofs.unheard.Met as c-unheard-thm
+use Rattle.decide_start.proofs.unheard as c-unheard
+use Rattle.decide_start.proofs.unheard.Symbol as c-unheard-def
+use Rattle.decide_start.proofs.unheard.Symbol.{name as #decide-start·unheard}
+use Rattle.decide_start.proofs.unheard.Met as c-unheard-thm
 use Rattle.runtime.proofs.observed.Key.{name as #runtime·observed}
 use Rattle.runtime.proofs.observed as f
 use Rattle.runtime.proofs.observed.Statement as stated
 use Rattle.runtime.proofs.observed.Code as code
-use Rattle.decide_start.specs.Starts.{isStarted}
+use Rattle.decide_start.specs.Starts.{isStarted, unheardBy}
 use Rattle.runtime.specs.Promises.{Good, TurnsIn}
 use Rattle.rules.specs.Protocol.{react, Replies, Observed as ObservedReply}
 use Rattle.state.specs.State.{phaseOf}
 use Rattle.decide_reply.specs.Replies.{observationIn}
 use Rattle.runtime.specs.Runtimes.{stateIn}
-use Rattle.runtime.specs.Stages.{unheardBy, RuntimeSound, phaseIn, Turns}
+use Rattle.runtime.specs.Stages.{RuntimeSound, phaseIn, Turns}
 use Rattle.runtime.proofs.Trials.{started-good, started-turns, unheard-turns}
 
 abbrev Arg : Type 0
@@ -109,7 +109,7 @@ rest1 = (seq (assign (place 0 []) (rvOpd (copy (place 5 [])))) return)
 
 -- its MIR is the one that is walked
 abbrev fn : Fn
-fn = record { lifetimes = 1; outlives = []; params = 2; locals = local tAnswer′.mir valueLocal ∷ local (tyRef (named 0) mut (pointee (tRuntime.the-row .written))) valueLocal ∷ local mirObserved valueLocal ∷ local mirStarting valueLocal ∷ local tyBool valueLocal ∷ local tAnswer′.mir valueLocal ∷ local (tyRef erased mut (pointee (tRuntime.the-row .written))) valueLocal ∷ []; body = (seq (assign (place 3 []) (rvOpd (copy (place 1 (deref mirRuntime ∷ field 10 ∷ []))))) (seq (call #decide-start·is-started ((copy (place 3 [])) ∷ []) (place 4 [])) (seq (condition (copy (place 4 [])) (seq (assign (place 6 []) (addrOf (place 1 (deref mirRuntime ∷ [])))) (call #runtime·observed-on ((copy (place 6 [])) ∷ (copy (place 2 [])) ∷ []) (place 5 []))) (call #runtime·unheard ((copy (place 3 [])) ∷ []) (place 5 []))) (seq (assign (place 0 []) (rvOpd (copy (place 5 [])))) return)))) }
+fn = record { lifetimes = 1; outlives = []; params = 2; locals = local tAnswer′.mir valueLocal ∷ local (tyRef (named 0) mut (pointee (tRuntime.the-row .written))) valueLocal ∷ local mirObserved valueLocal ∷ local mirStarting valueLocal ∷ local tyBool valueLocal ∷ local tAnswer′.mir valueLocal ∷ local (tyRef erased mut (pointee (tRuntime.the-row .written))) valueLocal ∷ []; body = (seq (assign (place 3 []) (rvOpd (copy (place 1 (deref mirRuntime ∷ field 10 ∷ []))))) (seq (call #decide-start·is-started ((copy (place 3 [])) ∷ []) (place 4 [])) (seq (condition (copy (place 4 [])) (seq (assign (place 6 []) (addrOf (place 1 (deref mirRuntime ∷ [])))) (call #runtime·observed-on ((copy (place 6 [])) ∷ (copy (place 2 [])) ∷ []) (place 5 []))) (call #decide-start·unheard ((copy (place 3 [])) ∷ []) (place 5 []))) (seq (assign (place 0 []) (rvOpd (copy (place 5 [])))) return)))) }
 
 locals-is : fn .locals ≡ code.function .locals
 locals-is = refl
@@ -199,7 +199,7 @@ module _ {M : Type 1} (𝓤 : URA M) (H : Heap 𝓤) (A : Atoms 𝓤) (W : Given
     goes3 : Is tStarting.the-row (h₀ .starting) (vStarting (h₀ .starting) ∷ []) → ent 𝓤 (emp 𝓤) (Call3 .pre to3)
     goes3 p0 = qed W [] ∵ nothing ! $ owned ! tStarting.the-row (Is tStarting.the-row) (LL.makes tStarting.the-type tStarting′.the-plain 𝓤 H A) (h₀ .starting) _ p0 $ fjoin ! $ nothing ! $ join ! $ frame ! $ done !
 
-  module _ (𝓣 : Tables 𝓤 H) (known-is-started : Triple 𝓤 (𝓣 .C #decide-start·is-started) (tripleOf 𝓤 H A c-is_started.signature (c-is_started.spec 𝓤 H A at-mem run))) (known-observed-on : Triple 𝓤 (𝓣 .C #runtime·observed-on) (tripleOf 𝓤 H A c-observed_on.signature (c-observed_on.spec 𝓤 H A at-mem run))) (known-unheard : Triple 𝓤 (𝓣 .C #runtime·unheard) (tripleOf 𝓤 H A c-unheard.signature (c-unheard.spec 𝓤 H A at-mem run))) where
+  module _ (𝓣 : Tables 𝓤 H) (known-is-started : Triple 𝓤 (𝓣 .C #decide-start·is-started) (tripleOf 𝓤 H A c-is_started.signature (c-is_started.spec 𝓤 H A at-mem run))) (known-observed-on : Triple 𝓤 (𝓣 .C #runtime·observed-on) (tripleOf 𝓤 H A c-observed_on.signature (c-observed_on.spec 𝓤 H A at-mem run))) (known-unheard : Triple 𝓤 (𝓣 .C #decide-start·unheard) (tripleOf 𝓤 H A c-unheard.signature (c-unheard.spec 𝓤 H A at-mem run))) where
     abbrev C : Calls 𝓤 H
     C = 𝓣 .C
 
@@ -213,7 +213,7 @@ module _ {M : Type 1} (𝓤 : URA M) (H : Heap 𝓤) (A : Atoms 𝓤) (W : Given
       abbrev En : Env 𝓤 H
       En = (tAnswer′.mir, l₀) ∷ ((tyRef (named 0) mut (pointee (tRuntime.the-row .written))), l₁) ∷ (mirObserved, l₂) ∷ (mirStarting, l₃) ∷ (tyBool, l₄) ∷ (tAnswer′.mir, l₅) ∷ ((tyRef erased mut (pointee (tRuntime.the-row .written))), l₆) ∷ []
 
-      body-from : Sq W (‵ (froom (tyRef erased mut (pointee (tRuntime.the-row .written))) l₆ 0) ∷ ‵ (fdies (tyRef erased mut (pointee (tRuntime.the-row .written))) l₆) ∷ ‵ (froom tAnswer′.mir l₅ 0) ∷ ‵ (fdies tAnswer′.mir l₅) ∷ ‵ (froom tyBool l₄ 0) ∷ ‵ (fdies tyBool l₄) ∷ ‵ (froom mirStarting l₃ 0) ∷ ‵ (fdies mirStarting l₃) ∷ ‵ (fat fullShare mirObserved l₂ 0 (vObserved reply)) ∷ ‵ (fdies mirObserved l₂) ∷ ‵ (fat fullShare (tyRef (named 0) mut (pointee (tRuntime.the-row .written))) l₁ 0 (vptr blk off)) ∷ ‵ (fdies (tyRef (named 0) mut (pointee (tRuntime.the-row .written))) l₁) ∷ ‵ (froom tAnswer′.mir l₀ 0) ∷ ‵ (fdies tAnswer′.mir l₀) ∷ ‵ (fobs γ (tRuntime.the-row .coded .code h₀)) ∷ ‵ (fbor κ (Body (mem tRuntime.the-row) blk off γ)) ∷ ‵ (flft κ share) ∷ []) (runs C Λ En (seq (assign (place 3 []) (rvOpd (copy (place 1 (deref mirRuntime ∷ field 10 ∷ []))))) (seq (call #decide-start·is-started ((copy (place 3 [])) ∷ []) (place 4 [])) (seq (condition (copy (place 4 [])) (seq (assign (place 6 []) (addrOf (place 1 (deref mirRuntime ∷ [])))) (call #runtime·observed-on ((copy (place 6 [])) ∷ (copy (place 2 [])) ∷ []) (place 5 []))) (call #runtime·unheard ((copy (place 3 [])) ∷ []) (place 5 []))) (seq (assign (place 0 []) (rvOpd (copy (place 5 [])))) return)))) (atRet En Post))
+      body-from : Sq W (‵ (froom (tyRef erased mut (pointee (tRuntime.the-row .written))) l₆ 0) ∷ ‵ (fdies (tyRef erased mut (pointee (tRuntime.the-row .written))) l₆) ∷ ‵ (froom tAnswer′.mir l₅ 0) ∷ ‵ (fdies tAnswer′.mir l₅) ∷ ‵ (froom tyBool l₄ 0) ∷ ‵ (fdies tyBool l₄) ∷ ‵ (froom mirStarting l₃ 0) ∷ ‵ (fdies mirStarting l₃) ∷ ‵ (fat fullShare mirObserved l₂ 0 (vObserved reply)) ∷ ‵ (fdies mirObserved l₂) ∷ ‵ (fat fullShare (tyRef (named 0) mut (pointee (tRuntime.the-row .written))) l₁ 0 (vptr blk off)) ∷ ‵ (fdies (tyRef (named 0) mut (pointee (tRuntime.the-row .written))) l₁) ∷ ‵ (froom tAnswer′.mir l₀ 0) ∷ ‵ (fdies tAnswer′.mir l₀) ∷ ‵ (fobs γ (tRuntime.the-row .coded .code h₀)) ∷ ‵ (fbor κ (Body (mem tRuntime.the-row) blk off γ)) ∷ ‵ (flft κ share) ∷ []) (runs C Λ En (seq (assign (place 3 []) (rvOpd (copy (place 1 (deref mirRuntime ∷ field 10 ∷ []))))) (seq (call #decide-start·is-started ((copy (place 3 [])) ∷ []) (place 4 [])) (seq (condition (copy (place 4 [])) (seq (assign (place 6 []) (addrOf (place 1 (deref mirRuntime ∷ [])))) (call #runtime·observed-on ((copy (place 6 [])) ∷ (copy (place 2 [])) ∷ []) (place 5 []))) (call #decide-start·unheard ((copy (place 3 [])) ∷ []) (place 5 []))) (seq (assign (place 0 []) (rvOpd (copy (place 5 [])))) return)))) (atRet En Post))
       body-from =
           move ! (14 ∷ 15 ∷ 16 ∷ []) $
           opens ! tt tRuntime.the-row {h = h₀} blk off (λ vs1. spelt ! tRuntime.the-row (Is tRuntime.the-row) (shows 𝓤 H A tRuntime.the-row) (LL.vals tRuntime.the-type tRuntime′.the-laws) (LL.tells tRuntime.the-type tRuntime′.the-laws) fullShare h₀ vs1 blk off $ move ! (1 ∷ []) $ peeks ! tRuntime.the-row (Is tRuntime.the-row) (shows 𝓤 H A tRuntime.the-row) h₀ (vRuntime h₀ ∷ []) (λ was1. drop ! $
@@ -266,14 +266,14 @@ module _ {M : Type 1} (𝓤 : URA M) (H : Heap 𝓤) (A : Atoms 𝓤) (W : Given
         by ! (subst (λ (z : Fn). ent 𝓤 (⋆ 𝓤 H A (‵ (fobs γ (tRuntime.the-row .coded .code h₀)) ∷ ‵ (fbor κ (Body (mem tRuntime.the-row) blk off γ)) ∷ ‵ (flft κ share) ∷ [])) (WpFn 𝓤 H C Λ z (vptr blk off ∷ vObserved reply ∷ []) Post)) fn-is walk-shape)
 
 module _ {M : Type 1} (𝓤 : URA M) (H : Heap 𝓤) (A : Atoms 𝓤) (W : Given 𝓤 H A) (at-mem : Memory → SProp 𝓤) (run : Routine → Fun 𝓤) (𝓣 : Tables 𝓤 H) where
-  walks : Triple 𝓤 (𝓣 .C #decide-start·is-started) (tripleOf 𝓤 H A c-is_started.signature (c-is_started.spec 𝓤 H A at-mem run)) → Triple 𝓤 (𝓣 .C #runtime·observed-on) (tripleOf 𝓤 H A c-observed_on.signature (c-observed_on.spec 𝓤 H A at-mem run)) → Triple 𝓤 (𝓣 .C #runtime·unheard) (tripleOf 𝓤 H A c-unheard.signature (c-unheard.spec 𝓤 H A at-mem run)) → Walks 𝓤 H A f.ended stayed (WpFn 𝓤 H (𝓣 .C) (𝓣 .Λ) code.function) (f.clauses 𝓤 H A at-mem run)
+  walks : Triple 𝓤 (𝓣 .C #decide-start·is-started) (tripleOf 𝓤 H A c-is_started.signature (c-is_started.spec 𝓤 H A at-mem run)) → Triple 𝓤 (𝓣 .C #runtime·observed-on) (tripleOf 𝓤 H A c-observed_on.signature (c-observed_on.spec 𝓤 H A at-mem run)) → Triple 𝓤 (𝓣 .C #decide-start·unheard) (tripleOf 𝓤 H A c-unheard.signature (c-unheard.spec 𝓤 H A at-mem run)) → Walks 𝓤 H A f.ended stayed (WpFn 𝓤 H (𝓣 .C) (𝓣 .Λ) code.function) (f.clauses 𝓤 H A at-mem run)
   walks known-is-started known-observed-on known-unheard = walked 𝓤 H A f.ended stayed (f.clauses 𝓤 H A at-mem run) (WpFn 𝓤 H (𝓣 .C) (𝓣 .Λ) code.function) (λ κs. (ptr-vals, (LL.vals tObserved.the-type tObserved′.the-laws, tt))) (λ κs. (mut-tells (named 0) (κs .0) tRuntime.the-row, (LL.tells tObserved.the-type tObserved′.the-laws, tt)))
       (λ κs qs bounds a _ are. needs 𝓤 (RuntimeSound (a .0 .now)) _ (λ good. walk 𝓤 H A W at-mem run (κs .0) (qs .0) (a .0 .ptr .0) (a .0 .ptr .1) (a .0 .name) (a .0 .now) (a .1 .0) (are .1 .0) good 𝓣 known-is-started known-observed-on known-unheard))
 
   slots-go : AllGo 𝓤 H A W 1 (f.signature .params) (f.ended .kept) stayed
   slots-go = (goes-ref 𝓤 H A W 1 0 tt (plain (λ _. tRuntime.the-row)), (goes-none 𝓤 H A W 1 (λ _. tObserved.the-row) yes (λ κs x f. refl), tt))
 
-  meets : Triple 𝓤 (𝓣 .C #decide-start·is-started) (tripleOf 𝓤 H A c-is_started.signature (c-is_started.spec 𝓤 H A at-mem run)) → Triple 𝓤 (𝓣 .C #runtime·observed-on) (tripleOf 𝓤 H A c-observed_on.signature (c-observed_on.spec 𝓤 H A at-mem run)) → Triple 𝓤 (𝓣 .C #runtime·unheard) (tripleOf 𝓤 H A c-unheard.signature (c-unheard.spec 𝓤 H A at-mem run)) → Meets 𝓤 H A f.signature (WpFn 𝓤 H (𝓣 .C) (𝓣 .Λ) code.function) (f.spec 𝓤 H A at-mem run)
+  meets : Triple 𝓤 (𝓣 .C #decide-start·is-started) (tripleOf 𝓤 H A c-is_started.signature (c-is_started.spec 𝓤 H A at-mem run)) → Triple 𝓤 (𝓣 .C #runtime·observed-on) (tripleOf 𝓤 H A c-observed_on.signature (c-observed_on.spec 𝓤 H A at-mem run)) → Triple 𝓤 (𝓣 .C #decide-start·unheard) (tripleOf 𝓤 H A c-unheard.signature (c-unheard.spec 𝓤 H A at-mem run)) → Meets 𝓤 H A f.signature (WpFn 𝓤 H (𝓣 .C) (𝓣 .Λ) code.function) (f.spec 𝓤 H A at-mem run)
   meets known-is-started known-observed-on known-unheard = walk-meets 𝓤 H A f.ended stayed W slots-go (f.clauses 𝓤 H A at-mem run) (WpFn 𝓤 H (𝓣 .C) (𝓣 .Λ) code.function) (WpFn-mono 𝓤 H (W .laws) 𝓣 code.function) (walks known-is-started known-observed-on known-unheard)
 
 pub observed-spec : {M : Type 1} → stated.statement M
@@ -284,4 +284,4 @@ observed-spec 𝓤 H 𝓜 𝓖 𝓡 =
     (meets 𝓤 H (𝓖 .A) (givenOf 𝓤 H 𝓜 𝓖) (𝓜 .mem) (𝓡 .run) (tablesOf 𝓤 H 𝓜 (tables 𝓤 H 𝓜 𝓡 code.env))
     (cited 𝓤 H (tripleOf 𝓤 H (𝓖 .A) c-is_started.signature (c-is_started.spec 𝓤 H (𝓖 .A) (𝓜 .mem) (𝓡 .run))) 𝓜 𝓡 code.env #decide-start·is-started c-is_started-def.routine code.calls-decide-start·is-started (c-is_started-thm.met 𝓤 H 𝓜 𝓖 𝓡))
     (cited 𝓤 H (tripleOf 𝓤 H (𝓖 .A) c-observed_on.signature (c-observed_on.spec 𝓤 H (𝓖 .A) (𝓜 .mem) (𝓡 .run))) 𝓜 𝓡 code.env #runtime·observed-on c-observed_on-def.routine code.calls-runtime·observed-on (c-observed_on-thm.met 𝓤 H 𝓜 𝓖 𝓡))
-    (cited 𝓤 H (tripleOf 𝓤 H (𝓖 .A) c-unheard.signature (c-unheard.spec 𝓤 H (𝓖 .A) (𝓜 .mem) (𝓡 .run))) 𝓜 𝓡 code.env #runtime·unheard c-unheard-def.routine code.calls-runtime·unheard (c-unheard-thm.met 𝓤 H 𝓜 𝓖 𝓡)))
+    (cited 𝓤 H (tripleOf 𝓤 H (𝓖 .A) c-unheard.signature (c-unheard.spec 𝓤 H (𝓖 .A) (𝓜 .mem) (𝓡 .run))) 𝓜 𝓡 code.env #decide-start·unheard c-unheard-def.routine code.calls-decide-start·unheard (c-unheard-thm.met 𝓤 H 𝓜 𝓖 𝓡)))

@@ -67,10 +67,10 @@ use Rattle.runtime.proofs.Runtime.Laws as tRuntime′
 use Rattle.runtime.proofs.Values.{vRuntime}
 use Rattle.runtime.proofs.Values.{mirRuntime}
 use Rattle.runtime.specs.declared.Runtime.{Runtime}
-use Rattle.runtime.proofs.is_seen as c-is_seen
-use Rattle.runtime.proofs.is_seen.Symbol as c-is_seen-def
-use Rattle.runtime.proofs.is_seen.Symbol.{name as #runtime·is-seen}
-use Rattle.runtime.proofs.is_seen.Met as c-is_seen-thm
+use Rattle.decide_flags.proofs.is_seen as c-is_seen
+use Rattle.decide_flags.proofs.is_seen.Symbol as c-is_seen-def
+use Rattle.decide_flags.proofs.is_seen.Symbol.{name as #decide-flags·is-seen}
+use Rattle.decide_flags.proofs.is_seen.Met as c-is_seen-thm
 use Rattle.runtime.proofs.poll as c-poll
 use Rattle.runtime.proofs.poll.Symbol as c-poll-def
 use Rattle.runtime.proofs.poll.Symbol.{name as #runtime·poll}
@@ -99,7 +99,7 @@ rest1 = (seq (assign (place 0 []) (rvOpd (copy (place 6 [])))) return)
 
 -- its MIR is the one that is walked
 abbrev fn : Fn
-fn = record { lifetimes = 1; outlives = []; params = 3; locals = local tAnswer′.mir valueLocal ∷ local (tyRef (named 0) mut (pointee (tRuntime.the-row .written))) valueLocal ∷ local (tyInt w32) valueLocal ∷ local (tyInt w64) valueLocal ∷ local (tyInt w32) valueLocal ∷ local tyBool valueLocal ∷ local tAnswer′.mir valueLocal ∷ local (tyRef erased mut (pointee (tRuntime.the-row .written))) valueLocal ∷ []; body = (seq (assign (place 4 []) (rvOpd (copy (place 1 (deref mirRuntime ∷ field 1 ∷ field 6 ∷ []))))) (seq (call #runtime·is-seen ((copy (place 4 [])) ∷ (copy (place 2 [])) ∷ []) (place 5 [])) (seq (condition (copy (place 5 [])) (assign (place 6 []) (aggregate ((int w8 1) ∷ []))) (seq (assign (place 7 []) (addrOf (place 1 (deref mirRuntime ∷ [])))) (call #runtime·poll ((copy (place 7 [])) ∷ (copy (place 2 [])) ∷ (copy (place 3 [])) ∷ []) (place 6 [])))) (seq (assign (place 0 []) (rvOpd (copy (place 6 [])))) return)))) }
+fn = record { lifetimes = 1; outlives = []; params = 3; locals = local tAnswer′.mir valueLocal ∷ local (tyRef (named 0) mut (pointee (tRuntime.the-row .written))) valueLocal ∷ local (tyInt w32) valueLocal ∷ local (tyInt w64) valueLocal ∷ local (tyInt w32) valueLocal ∷ local tyBool valueLocal ∷ local tAnswer′.mir valueLocal ∷ local (tyRef erased mut (pointee (tRuntime.the-row .written))) valueLocal ∷ []; body = (seq (assign (place 4 []) (rvOpd (copy (place 1 (deref mirRuntime ∷ field 1 ∷ field 6 ∷ []))))) (seq (call #decide-flags·is-seen ((copy (place 4 [])) ∷ (copy (place 2 [])) ∷ []) (place 5 [])) (seq (condition (copy (place 5 [])) (assign (place 6 []) (aggregate ((int w8 1) ∷ []))) (seq (assign (place 7 []) (addrOf (place 1 (deref mirRuntime ∷ [])))) (call #runtime·poll ((copy (place 7 [])) ∷ (copy (place 2 [])) ∷ (copy (place 3 [])) ∷ []) (place 6 [])))) (seq (assign (place 0 []) (rvOpd (copy (place 6 [])))) return)))) }
 
 locals-is : fn .locals ≡ code.function .locals
 locals-is = refl
@@ -166,7 +166,7 @@ module _ {M : Type 1} (𝓤 : URA M) (H : Heap 𝓤) (A : Atoms 𝓤) (W : Given
     goes2 : (ν2 : ℕ) (γ2 : GName) → Is u32 raised (vint w32 raised ∷ []) → Is u64 time (vint w64 time ∷ []) → Good h₀ → ent 𝓤 (sep 𝓤 (A .lft (ν2 ∷ []) fullShare) (sem 𝓤 H A (MutRef (named 0) (ν2 ∷ []) tRuntime.the-row .own (ref-at tRuntime.the-row blk off γ2 h₀) (vptr blk off ∷ [])))) (Call2 .pre (to2 ν2 γ2))
     goes2 ν2 γ2 p0 p1 need = qed W (‵ (flft (ν2 ∷ []) fullShare) ∷ ‵ (MutRef (named 0) (ν2 ∷ []) tRuntime.the-row .own (ref-at tRuntime.the-row blk off γ2 h₀) (vptr blk off ∷ [])) ∷ []) ∵ says ! need $ nothing ! $ move ! (1 ∷ 0 ∷ []) $ join ! $ frame ! $ nothing ! $ owned ! u64 (Is u64) (uint-makes 𝓤 H A W w64) time _ p1 $ fjoin ! $ owned ! u32 (Is u32) (uint-makes 𝓤 H A W w32) raised _ p0 $ fjoin ! $ move ! (1 ∷ 0 ∷ []) $ fjoin ! $ done !
 
-  module _ (𝓣 : Tables 𝓤 H) (known-is-seen : Triple 𝓤 (𝓣 .C #runtime·is-seen) (tripleOf 𝓤 H A c-is_seen.signature (c-is_seen.spec 𝓤 H A at-mem run))) (known-poll : Triple 𝓤 (𝓣 .C #runtime·poll) (tripleOf 𝓤 H A c-poll.signature (c-poll.spec 𝓤 H A at-mem run))) where
+  module _ (𝓣 : Tables 𝓤 H) (known-is-seen : Triple 𝓤 (𝓣 .C #decide-flags·is-seen) (tripleOf 𝓤 H A c-is_seen.signature (c-is_seen.spec 𝓤 H A at-mem run))) (known-poll : Triple 𝓤 (𝓣 .C #runtime·poll) (tripleOf 𝓤 H A c-poll.signature (c-poll.spec 𝓤 H A at-mem run))) where
     abbrev C : Calls 𝓤 H
     C = 𝓣 .C
 
@@ -180,7 +180,7 @@ module _ {M : Type 1} (𝓤 : URA M) (H : Heap 𝓤) (A : Atoms 𝓤) (W : Given
       abbrev En : Env 𝓤 H
       En = (tAnswer′.mir, l₀) ∷ ((tyRef (named 0) mut (pointee (tRuntime.the-row .written))), l₁) ∷ ((tyInt w32), l₂) ∷ ((tyInt w64), l₃) ∷ ((tyInt w32), l₄) ∷ (tyBool, l₅) ∷ (tAnswer′.mir, l₆) ∷ ((tyRef erased mut (pointee (tRuntime.the-row .written))), l₇) ∷ []
 
-      body-from : Sq W (‵ (froom (tyRef erased mut (pointee (tRuntime.the-row .written))) l₇ 0) ∷ ‵ (fdies (tyRef erased mut (pointee (tRuntime.the-row .written))) l₇) ∷ ‵ (froom tAnswer′.mir l₆ 0) ∷ ‵ (fdies tAnswer′.mir l₆) ∷ ‵ (froom tyBool l₅ 0) ∷ ‵ (fdies tyBool l₅) ∷ ‵ (froom (tyInt w32) l₄ 0) ∷ ‵ (fdies (tyInt w32) l₄) ∷ ‵ (fat fullShare (tyInt w64) l₃ 0 (vint w64 time)) ∷ ‵ (fdies (tyInt w64) l₃) ∷ ‵ (fat fullShare (tyInt w32) l₂ 0 (vint w32 raised)) ∷ ‵ (fdies (tyInt w32) l₂) ∷ ‵ (fat fullShare (tyRef (named 0) mut (pointee (tRuntime.the-row .written))) l₁ 0 (vptr blk off)) ∷ ‵ (fdies (tyRef (named 0) mut (pointee (tRuntime.the-row .written))) l₁) ∷ ‵ (froom tAnswer′.mir l₀ 0) ∷ ‵ (fdies tAnswer′.mir l₀) ∷ ‵ (fobs γ (tRuntime.the-row .coded .code h₀)) ∷ ‵ (fbor κ (Body (mem tRuntime.the-row) blk off γ)) ∷ ‵ (flft κ share) ∷ []) (runs C Λ En (seq (assign (place 4 []) (rvOpd (copy (place 1 (deref mirRuntime ∷ field 1 ∷ field 6 ∷ []))))) (seq (call #runtime·is-seen ((copy (place 4 [])) ∷ (copy (place 2 [])) ∷ []) (place 5 [])) (seq (condition (copy (place 5 [])) (assign (place 6 []) (aggregate ((int w8 1) ∷ []))) (seq (assign (place 7 []) (addrOf (place 1 (deref mirRuntime ∷ [])))) (call #runtime·poll ((copy (place 7 [])) ∷ (copy (place 2 [])) ∷ (copy (place 3 [])) ∷ []) (place 6 [])))) (seq (assign (place 0 []) (rvOpd (copy (place 6 [])))) return)))) (atRet En Post))
+      body-from : Sq W (‵ (froom (tyRef erased mut (pointee (tRuntime.the-row .written))) l₇ 0) ∷ ‵ (fdies (tyRef erased mut (pointee (tRuntime.the-row .written))) l₇) ∷ ‵ (froom tAnswer′.mir l₆ 0) ∷ ‵ (fdies tAnswer′.mir l₆) ∷ ‵ (froom tyBool l₅ 0) ∷ ‵ (fdies tyBool l₅) ∷ ‵ (froom (tyInt w32) l₄ 0) ∷ ‵ (fdies (tyInt w32) l₄) ∷ ‵ (fat fullShare (tyInt w64) l₃ 0 (vint w64 time)) ∷ ‵ (fdies (tyInt w64) l₃) ∷ ‵ (fat fullShare (tyInt w32) l₂ 0 (vint w32 raised)) ∷ ‵ (fdies (tyInt w32) l₂) ∷ ‵ (fat fullShare (tyRef (named 0) mut (pointee (tRuntime.the-row .written))) l₁ 0 (vptr blk off)) ∷ ‵ (fdies (tyRef (named 0) mut (pointee (tRuntime.the-row .written))) l₁) ∷ ‵ (froom tAnswer′.mir l₀ 0) ∷ ‵ (fdies tAnswer′.mir l₀) ∷ ‵ (fobs γ (tRuntime.the-row .coded .code h₀)) ∷ ‵ (fbor κ (Body (mem tRuntime.the-row) blk off γ)) ∷ ‵ (flft κ share) ∷ []) (runs C Λ En (seq (assign (place 4 []) (rvOpd (copy (place 1 (deref mirRuntime ∷ field 1 ∷ field 6 ∷ []))))) (seq (call #decide-flags·is-seen ((copy (place 4 [])) ∷ (copy (place 2 [])) ∷ []) (place 5 [])) (seq (condition (copy (place 5 [])) (assign (place 6 []) (aggregate ((int w8 1) ∷ []))) (seq (assign (place 7 []) (addrOf (place 1 (deref mirRuntime ∷ [])))) (call #runtime·poll ((copy (place 7 [])) ∷ (copy (place 2 [])) ∷ (copy (place 3 [])) ∷ []) (place 6 [])))) (seq (assign (place 0 []) (rvOpd (copy (place 6 [])))) return)))) (atRet En Post))
       body-from =
           move ! (16 ∷ 17 ∷ 18 ∷ []) $
           opens ! tt tRuntime.the-row {h = h₀} blk off (λ vs1. spelt ! tRuntime.the-row (Is tRuntime.the-row) (shows 𝓤 H A tRuntime.the-row) (LL.vals tRuntime.the-type tRuntime′.the-laws) (LL.tells tRuntime.the-type tRuntime′.the-laws) fullShare h₀ vs1 blk off $ move ! (1 ∷ []) $ peeks ! tRuntime.the-row (Is tRuntime.the-row) (shows 𝓤 H A tRuntime.the-row) h₀ (vRuntime h₀ ∷ []) (λ was1. drop ! $
@@ -228,14 +228,14 @@ module _ {M : Type 1} (𝓤 : URA M) (H : Heap 𝓤) (A : Atoms 𝓤) (W : Given
         by ! (subst (λ (z : Fn). ent 𝓤 (⋆ 𝓤 H A (‵ (fobs γ (tRuntime.the-row .coded .code h₀)) ∷ ‵ (fbor κ (Body (mem tRuntime.the-row) blk off γ)) ∷ ‵ (flft κ share) ∷ [])) (WpFn 𝓤 H C Λ z (vptr blk off ∷ vint w32 raised ∷ vint w64 time ∷ []) Post)) fn-is walk-shape)
 
 module _ {M : Type 1} (𝓤 : URA M) (H : Heap 𝓤) (A : Atoms 𝓤) (W : Given 𝓤 H A) (at-mem : Memory → SProp 𝓤) (run : Routine → Fun 𝓤) (𝓣 : Tables 𝓤 H) where
-  walks : Triple 𝓤 (𝓣 .C #runtime·is-seen) (tripleOf 𝓤 H A c-is_seen.signature (c-is_seen.spec 𝓤 H A at-mem run)) → Triple 𝓤 (𝓣 .C #runtime·poll) (tripleOf 𝓤 H A c-poll.signature (c-poll.spec 𝓤 H A at-mem run)) → Walks 𝓤 H A f.ended stayed (WpFn 𝓤 H (𝓣 .C) (𝓣 .Λ) code.function) (f.clauses 𝓤 H A at-mem run)
+  walks : Triple 𝓤 (𝓣 .C #decide-flags·is-seen) (tripleOf 𝓤 H A c-is_seen.signature (c-is_seen.spec 𝓤 H A at-mem run)) → Triple 𝓤 (𝓣 .C #runtime·poll) (tripleOf 𝓤 H A c-poll.signature (c-poll.spec 𝓤 H A at-mem run)) → Walks 𝓤 H A f.ended stayed (WpFn 𝓤 H (𝓣 .C) (𝓣 .Λ) code.function) (f.clauses 𝓤 H A at-mem run)
   walks known-is-seen known-poll = walked 𝓤 H A f.ended stayed (f.clauses 𝓤 H A at-mem run) (WpFn 𝓤 H (𝓣 .C) (𝓣 .Λ) code.function) (λ κs. (ptr-vals, (uint-vals w32, (uint-vals w64, tt)))) (λ κs. (mut-tells (named 0) (κs .0) tRuntime.the-row, (uint-tells w32, (uint-tells w64, tt))))
       (λ κs qs bounds a _ are. needs 𝓤 (Good (a .0 .now) × ((a .0 .now) .waiting .awaited ≡ Nothing)) _ (λ good. walk 𝓤 H A W at-mem run (κs .0) (qs .0) (a .0 .ptr .0) (a .0 .ptr .1) (a .0 .name) (a .0 .now) (a .1 .0) (a .1 .1 .0) (are .1 .0) (are .1 .1 .0) good 𝓣 known-is-seen known-poll))
 
   slots-go : AllGo 𝓤 H A W 1 (f.signature .params) (f.ended .kept) stayed
   slots-go = (goes-ref 𝓤 H A W 1 0 tt (plain (λ _. tRuntime.the-row)), (goes-none 𝓤 H A W 1 (λ _. u32) yes (λ κs x f. refl), (goes-none 𝓤 H A W 1 (λ _. u64) yes (λ κs x f. refl), tt)))
 
-  meets : Triple 𝓤 (𝓣 .C #runtime·is-seen) (tripleOf 𝓤 H A c-is_seen.signature (c-is_seen.spec 𝓤 H A at-mem run)) → Triple 𝓤 (𝓣 .C #runtime·poll) (tripleOf 𝓤 H A c-poll.signature (c-poll.spec 𝓤 H A at-mem run)) → Meets 𝓤 H A f.signature (WpFn 𝓤 H (𝓣 .C) (𝓣 .Λ) code.function) (f.spec 𝓤 H A at-mem run)
+  meets : Triple 𝓤 (𝓣 .C #decide-flags·is-seen) (tripleOf 𝓤 H A c-is_seen.signature (c-is_seen.spec 𝓤 H A at-mem run)) → Triple 𝓤 (𝓣 .C #runtime·poll) (tripleOf 𝓤 H A c-poll.signature (c-poll.spec 𝓤 H A at-mem run)) → Meets 𝓤 H A f.signature (WpFn 𝓤 H (𝓣 .C) (𝓣 .Λ) code.function) (f.spec 𝓤 H A at-mem run)
   meets known-is-seen known-poll = walk-meets 𝓤 H A f.ended stayed W slots-go (f.clauses 𝓤 H A at-mem run) (WpFn 𝓤 H (𝓣 .C) (𝓣 .Λ) code.function) (WpFn-mono 𝓤 H (W .laws) 𝓣 code.function) (walks known-is-seen known-poll)
 
 pub poll-on-spec : {M : Type 1} → stated.statement M
@@ -244,5 +244,5 @@ poll-on-spec 𝓤 H 𝓜 𝓖 𝓡 =
     entered 𝓤 H (tripleOf 𝓤 H (𝓖 .A) f.signature (f.spec 𝓤 H (𝓖 .A) (𝓜 .mem) (𝓡 .run)))
     (tables 𝓤 H 𝓜 𝓡 code.env .C) (tables 𝓤 H 𝓜 𝓡 code.env .Λ) #runtime·poll-on code.function (code.unfolded 𝓤 H 𝓜 𝓡)
     (meets 𝓤 H (𝓖 .A) (givenOf 𝓤 H 𝓜 𝓖) (𝓜 .mem) (𝓡 .run) (tablesOf 𝓤 H 𝓜 (tables 𝓤 H 𝓜 𝓡 code.env))
-    (cited 𝓤 H (tripleOf 𝓤 H (𝓖 .A) c-is_seen.signature (c-is_seen.spec 𝓤 H (𝓖 .A) (𝓜 .mem) (𝓡 .run))) 𝓜 𝓡 code.env #runtime·is-seen c-is_seen-def.routine code.calls-runtime·is-seen (c-is_seen-thm.met 𝓤 H 𝓜 𝓖 𝓡))
+    (cited 𝓤 H (tripleOf 𝓤 H (𝓖 .A) c-is_seen.signature (c-is_seen.spec 𝓤 H (𝓖 .A) (𝓜 .mem) (𝓡 .run))) 𝓜 𝓡 code.env #decide-flags·is-seen c-is_seen-def.routine code.calls-decide-flags·is-seen (c-is_seen-thm.met 𝓤 H 𝓜 𝓖 𝓡))
     (cited 𝓤 H (tripleOf 𝓤 H (𝓖 .A) c-poll.signature (c-poll.spec 𝓤 H (𝓖 .A) (𝓜 .mem) (𝓡 .run))) 𝓜 𝓡 code.env #runtime·poll c-poll-def.routine code.calls-runtime·poll (c-poll-thm.met 𝓤 H 𝓜 𝓖 𝓡)))

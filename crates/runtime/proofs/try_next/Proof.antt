@@ -71,10 +71,10 @@ use Rattle.runtime.proofs.Runtime.Laws as tRuntime′
 use Rattle.runtime.proofs.Values.{vRuntime}
 use Rattle.runtime.proofs.Values.{mirRuntime}
 use Rattle.runtime.specs.declared.Runtime.{Runtime}
-use Rattle.runtime.proofs.both as c-both
-use Rattle.runtime.proofs.both.Symbol as c-both-def
-use Rattle.runtime.proofs.both.Symbol.{name as #runtime·both}
-use Rattle.runtime.proofs.both.Met as c-both-thm
+use Rattle.decide_start.proofs.still_good as c-still_good
+use Rattle.decide_start.proofs.still_good.Symbol as c-still_good-def
+use Rattle.decide_start.proofs.still_good.Symbol.{name as #decide-start·still-good}
+use Rattle.decide_start.proofs.still_good.Met as c-still_good-thm
 use Rattle.runtime.proofs.try_from as c-try_from
 use Rattle.runtime.proofs.try_from.Symbol as c-try_from-def
 use Rattle.runtime.proofs.try_from.Symbol.{name as #runtime·try-from}
@@ -97,7 +97,7 @@ stayed = (stay-ref (0 ∷ []) tt (plain (λ _. tRuntime.the-row)), (stay-none (�
 
 -- its MIR is the one that is walked
 abbrev fn : Fn
-fn = record { lifetimes = 1; outlives = []; params = 2; locals = local tAnswer′.mir valueLocal ∷ local (tyRef (named 0) mut (pointee (tRuntime.the-row .written))) valueLocal ∷ local tyBool valueLocal ∷ local (tyInt w8) valueLocal ∷ local mirStarting valueLocal ∷ local tyBool valueLocal ∷ local (tyRef erased mut (pointee (tRuntime.the-row .written))) valueLocal ∷ local (tyInt w8) valueLocal ∷ []; body = (seq (assign (place 3 []) (rvOpd (copy (place 1 (deref mirRuntime ∷ field 6 ∷ field 1 ∷ []))))) (seq (assign (place 4 []) (rvOpd (copy (place 1 (deref mirRuntime ∷ field 10 ∷ []))))) (seq (call #runtime·both ((copy (place 4 (field 1 ∷ []))) ∷ (copy (place 2 [])) ∷ []) (place 5 [])) (seq (assign (place 6 []) (addrOf (place 1 (deref mirRuntime ∷ [])))) (seq (assign (place 7 []) (op2 (add unsigned) (copy (place 3 [])) (int w8 1))) (seq (call #runtime·try-from ((copy (place 6 [])) ∷ (copy (place 7 [])) ∷ (copy (place 5 [])) ∷ []) (place 0 [])) return)))))) }
+fn = record { lifetimes = 1; outlives = []; params = 2; locals = local tAnswer′.mir valueLocal ∷ local (tyRef (named 0) mut (pointee (tRuntime.the-row .written))) valueLocal ∷ local tyBool valueLocal ∷ local (tyInt w8) valueLocal ∷ local mirStarting valueLocal ∷ local tyBool valueLocal ∷ local (tyRef erased mut (pointee (tRuntime.the-row .written))) valueLocal ∷ local (tyInt w8) valueLocal ∷ []; body = (seq (assign (place 3 []) (rvOpd (copy (place 1 (deref mirRuntime ∷ field 6 ∷ field 1 ∷ []))))) (seq (assign (place 4 []) (rvOpd (copy (place 1 (deref mirRuntime ∷ field 10 ∷ []))))) (seq (call #decide-start·still-good ((copy (place 4 (field 1 ∷ []))) ∷ (copy (place 2 [])) ∷ []) (place 5 [])) (seq (assign (place 6 []) (addrOf (place 1 (deref mirRuntime ∷ [])))) (seq (assign (place 7 []) (op2 (add unsigned) (copy (place 3 [])) (int w8 1))) (seq (call #runtime·try-from ((copy (place 6 [])) ∷ (copy (place 7 [])) ∷ (copy (place 5 [])) ∷ []) (place 0 [])) return)))))) }
 
 locals-is : fn .locals ≡ code.function .locals
 locals-is = refl
@@ -124,22 +124,22 @@ module _ {M : Type 1} (𝓤 : URA M) (H : Heap 𝓤) (A : Atoms 𝓤) (W : Given
       says ! e $ nothing ! $ move ! (3 ∷ 0 ∷ []) $ join ! $ frame ! $ feqI ! (List Val) (vptr blk off ∷ []) (vptr blk off ∷ []) refl $ fjoin3 ! $ nothing ! $ owned ! bool (Is bool) (bool-makes 𝓤 H A W) ok _ ok-is $ fjoin ! $ move ! (1 ∷ 0 ∷ []) $ fjoin ! $
       owned ! tAnswer.the-row (Is tAnswer.the-row) (EL.makes tAnswer.the-type tAnswer′.the-plain 𝓤 H A) res _ res-is $ move ! (1 ∷ 0 ∷ []) $ done !
 
-  -- both
+  -- still_good
   abbrev Call1 : Contract 𝓤
-  Call1 = tripleOf 𝓤 H A c-both.signature (c-both.spec 𝓤 H A at-mem run)
+  Call1 = tripleOf 𝓤 H A c-still_good.signature (c-still_good.spec 𝓤 H A at-mem run)
 
   module _ where
     abbrev given1 : (Bool × (Bool × Unit {0}))
     given1 = (h₀ .starting .good, (ok, tt))
 
-    abbrev to1 : tripleOf 𝓤 H A c-both.signature (c-both.spec 𝓤 H A at-mem run) .Ghost
+    abbrev to1 : tripleOf 𝓤 H A c-still_good.signature (c-still_good.spec 𝓤 H A at-mem run) .Ghost
     to1 = ((tt, tt, tt, given1, (vbool (h₀ .starting .good) ∷ [], (vbool ok ∷ [], tt))), tt)
 
     abbrev Got1 : Bool → SProp 𝓤
-    Got1 r1 = ensured 𝓤 H A c-both.ended (c-both.clauses 𝓤 H A at-mem run) tt given1 tt r1
+    Got1 r1 = ensured 𝓤 H A c-still_good.ended (c-still_good.clauses 𝓤 H A at-mem run) tt given1 tt r1
 
     got1 : (r1 : Bool) → ent 𝓤 (Got1 r1) (fact 𝓤 (r1 ≡ ((h₀ .starting .good) && ok)))
-    got1 r1 = exE 𝓤 _ (λ ws. snd∗ 𝓤 (sem 𝓤 H A (lasts c-both.ended tt given1 ws)) (fact 𝓤 (r1 ≡ ((h₀ .starting .good) && ok))))
+    got1 r1 = exE 𝓤 _ (λ ws. snd∗ 𝓤 (sem 𝓤 H A (lasts c-still_good.ended tt given1 ws)) (fact 𝓤 (r1 ≡ ((h₀ .starting .good) && ok))))
 
     is-of1 : (r1 : Bool) (v1 : Val) → Is bool r1 (v1 ∷ []) → r1 ≡ ((h₀ .starting .good) && ok) → Is bool ((h₀ .starting .good) && ok) (vbool ((h₀ .starting .good) && ok) ∷ [])
     is-of1 r1 v1 is1 e1 = subst (λ (r1 : Bool). Is bool r1 (vbool r1 ∷ [])) (e1) (subst (Is bool r1) (bool-tells r1 (v1 ∷ []) is1) is1)
@@ -164,7 +164,7 @@ module _ {M : Type 1} (𝓤 : URA M) (H : Heap 𝓤) (A : Atoms 𝓤) (W : Given
     goes2 : (ν2 : ℕ) (γ2 : GName) → Is u8 ((h₀ .falling .axis) + 1) (vint w8 ((h₀ .falling .axis) + 1) ∷ []) → Is bool ((h₀ .starting .good) && ok) (vbool ((h₀ .starting .good) && ok) ∷ []) → Opened h₀ × (((h₀ .falling .axis) + 1) ≤ 8) → ent 𝓤 (sep 𝓤 (A .lft (ν2 ∷ []) fullShare) (sem 𝓤 H A (MutRef (named 0) (ν2 ∷ []) tRuntime.the-row .own (ref-at tRuntime.the-row blk off γ2 h₀) (vptr blk off ∷ [])))) (Call2 .pre (to2 ν2 γ2))
     goes2 ν2 γ2 p0 p1 need = qed W (‵ (flft (ν2 ∷ []) fullShare) ∷ ‵ (MutRef (named 0) (ν2 ∷ []) tRuntime.the-row .own (ref-at tRuntime.the-row blk off γ2 h₀) (vptr blk off ∷ [])) ∷ []) ∵ says ! need $ nothing ! $ move ! (1 ∷ 0 ∷ []) $ join ! $ frame ! $ nothing ! $ owned ! bool (Is bool) (bool-makes 𝓤 H A W) ((h₀ .starting .good) && ok) _ p1 $ fjoin ! $ owned ! u8 (Is u8) (uint-makes 𝓤 H A W w8) ((h₀ .falling .axis) + 1) _ p0 $ fjoin ! $ move ! (1 ∷ 0 ∷ []) $ fjoin ! $ done !
 
-  module _ (𝓣 : Tables 𝓤 H) (known-both : Triple 𝓤 (𝓣 .C #runtime·both) (tripleOf 𝓤 H A c-both.signature (c-both.spec 𝓤 H A at-mem run))) (known-try-from : Triple 𝓤 (𝓣 .C #runtime·try-from) (tripleOf 𝓤 H A c-try_from.signature (c-try_from.spec 𝓤 H A at-mem run))) where
+  module _ (𝓣 : Tables 𝓤 H) (known-still-good : Triple 𝓤 (𝓣 .C #decide-start·still-good) (tripleOf 𝓤 H A c-still_good.signature (c-still_good.spec 𝓤 H A at-mem run))) (known-try-from : Triple 𝓤 (𝓣 .C #runtime·try-from) (tripleOf 𝓤 H A c-try_from.signature (c-try_from.spec 𝓤 H A at-mem run))) where
     abbrev C : Calls 𝓤 H
     C = 𝓣 .C
 
@@ -178,14 +178,14 @@ module _ {M : Type 1} (𝓤 : URA M) (H : Heap 𝓤) (A : Atoms 𝓤) (W : Given
       abbrev En : Env 𝓤 H
       En = (tAnswer′.mir, l₀) ∷ ((tyRef (named 0) mut (pointee (tRuntime.the-row .written))), l₁) ∷ (tyBool, l₂) ∷ ((tyInt w8), l₃) ∷ (mirStarting, l₄) ∷ (tyBool, l₅) ∷ ((tyRef erased mut (pointee (tRuntime.the-row .written))), l₆) ∷ ((tyInt w8), l₇) ∷ []
 
-      body-from : Sq W (‵ (froom (tyInt w8) l₇ 0) ∷ ‵ (fdies (tyInt w8) l₇) ∷ ‵ (froom (tyRef erased mut (pointee (tRuntime.the-row .written))) l₆ 0) ∷ ‵ (fdies (tyRef erased mut (pointee (tRuntime.the-row .written))) l₆) ∷ ‵ (froom tyBool l₅ 0) ∷ ‵ (fdies tyBool l₅) ∷ ‵ (froom mirStarting l₄ 0) ∷ ‵ (fdies mirStarting l₄) ∷ ‵ (froom (tyInt w8) l₃ 0) ∷ ‵ (fdies (tyInt w8) l₃) ∷ ‵ (fat fullShare tyBool l₂ 0 (vbool ok)) ∷ ‵ (fdies tyBool l₂) ∷ ‵ (fat fullShare (tyRef (named 0) mut (pointee (tRuntime.the-row .written))) l₁ 0 (vptr blk off)) ∷ ‵ (fdies (tyRef (named 0) mut (pointee (tRuntime.the-row .written))) l₁) ∷ ‵ (froom tAnswer′.mir l₀ 0) ∷ ‵ (fdies tAnswer′.mir l₀) ∷ ‵ (fobs γ (tRuntime.the-row .coded .code h₀)) ∷ ‵ (fbor κ (Body (mem tRuntime.the-row) blk off γ)) ∷ ‵ (flft κ share) ∷ []) (runs C Λ En (seq (assign (place 3 []) (rvOpd (copy (place 1 (deref mirRuntime ∷ field 6 ∷ field 1 ∷ []))))) (seq (assign (place 4 []) (rvOpd (copy (place 1 (deref mirRuntime ∷ field 10 ∷ []))))) (seq (call #runtime·both ((copy (place 4 (field 1 ∷ []))) ∷ (copy (place 2 [])) ∷ []) (place 5 [])) (seq (assign (place 6 []) (addrOf (place 1 (deref mirRuntime ∷ [])))) (seq (assign (place 7 []) (op2 (add unsigned) (copy (place 3 [])) (int w8 1))) (seq (call #runtime·try-from ((copy (place 6 [])) ∷ (copy (place 7 [])) ∷ (copy (place 5 [])) ∷ []) (place 0 [])) return)))))) (atRet En Post))
+      body-from : Sq W (‵ (froom (tyInt w8) l₇ 0) ∷ ‵ (fdies (tyInt w8) l₇) ∷ ‵ (froom (tyRef erased mut (pointee (tRuntime.the-row .written))) l₆ 0) ∷ ‵ (fdies (tyRef erased mut (pointee (tRuntime.the-row .written))) l₆) ∷ ‵ (froom tyBool l₅ 0) ∷ ‵ (fdies tyBool l₅) ∷ ‵ (froom mirStarting l₄ 0) ∷ ‵ (fdies mirStarting l₄) ∷ ‵ (froom (tyInt w8) l₃ 0) ∷ ‵ (fdies (tyInt w8) l₃) ∷ ‵ (fat fullShare tyBool l₂ 0 (vbool ok)) ∷ ‵ (fdies tyBool l₂) ∷ ‵ (fat fullShare (tyRef (named 0) mut (pointee (tRuntime.the-row .written))) l₁ 0 (vptr blk off)) ∷ ‵ (fdies (tyRef (named 0) mut (pointee (tRuntime.the-row .written))) l₁) ∷ ‵ (froom tAnswer′.mir l₀ 0) ∷ ‵ (fdies tAnswer′.mir l₀) ∷ ‵ (fobs γ (tRuntime.the-row .coded .code h₀)) ∷ ‵ (fbor κ (Body (mem tRuntime.the-row) blk off γ)) ∷ ‵ (flft κ share) ∷ []) (runs C Λ En (seq (assign (place 3 []) (rvOpd (copy (place 1 (deref mirRuntime ∷ field 6 ∷ field 1 ∷ []))))) (seq (assign (place 4 []) (rvOpd (copy (place 1 (deref mirRuntime ∷ field 10 ∷ []))))) (seq (call #decide-start·still-good ((copy (place 4 (field 1 ∷ []))) ∷ (copy (place 2 [])) ∷ []) (place 5 [])) (seq (assign (place 6 []) (addrOf (place 1 (deref mirRuntime ∷ [])))) (seq (assign (place 7 []) (op2 (add unsigned) (copy (place 3 [])) (int w8 1))) (seq (call #runtime·try-from ((copy (place 6 [])) ∷ (copy (place 7 [])) ∷ (copy (place 5 [])) ∷ []) (place 0 [])) return)))))) (atRet En Post))
       body-from =
           move ! (16 ∷ 17 ∷ 18 ∷ []) $
           opens ! tt tRuntime.the-row {h = h₀} blk off (λ vs1. spelt ! tRuntime.the-row (Is tRuntime.the-row) (shows 𝓤 H A tRuntime.the-row) (LL.vals tRuntime.the-type tRuntime′.the-laws) (LL.tells tRuntime.the-type tRuntime′.the-laws) fullShare h₀ vs1 blk off $ move ! (1 ∷ []) $ peeks ! tRuntime.the-row (Is tRuntime.the-row) (shows 𝓤 H A tRuntime.the-row) h₀ (vRuntime h₀ ∷ []) (λ was1. drop ! $
           assigns ! (of-opd ! (load ! (from ! (hop ! (look ! 16 refl) (fld ! {τ = mirFalling} {d = 96} refl (fld ! {τ = (tyInt w8)} {d = 8} refl (stop !))))) (look-in ! 0 (sub ! 1 {τ = (tyInt w8)} {d = 8} refl (sub ! 6 {τ = mirFalling} {d = 96} refl (whole-raw ! mirRuntime)))))) (from ! (stop !)) (init ! 12 refl (uint-lawful 𝓤 H A W w8 .typed (h₀ .falling .axis) _ (LL.owed tFalling.the-type tFalling′.the-laws (h₀ .falling) (vFalling (h₀ .falling) ∷ []) (LL.owed tRuntime.the-type tRuntime′.the-laws h₀ (vRuntime h₀ ∷ []) was1 .1 .1 .1 .1 .1 .1 .0) .1 .0) .0)) $
           assigns ! (of-opd ! (load ! (from ! (hop ! (look ! 16 refl) (fld ! {τ = mirStarting} {d = 192} refl (stop !)))) (look-in ! 0 (sub ! 10 {τ = mirStarting} {d = 192} refl (whole-raw ! mirRuntime))))) (from ! (stop !)) (init ! 10 refl (LL.lawful tStarting.the-type tStarting′.the-laws 𝓤 H A W .typed (h₀ .starting) _ (LL.owed tRuntime.the-type tRuntime′.the-laws h₀ (vRuntime h₀ ∷ []) was1 .1 .1 .1 .1 .1 .1 .1 .1 .1 .1 .0) .0)) $
           use0 W (raw (Call1 .pre (to1))) (goes1 (LL.owed tStarting.the-type tStarting′.the-laws (h₀ .starting) (vStarting (h₀ .starting) ∷ []) (LL.owed tRuntime.the-type tRuntime′.the-laws h₀ (vRuntime h₀ ∷ []) was1 .1 .1 .1 .1 .1 .1 .1 .1 .1 .1 .0) .1 .0) ok-is) $
-          calls-at ! fm Call1 known-both (to1) (and-then ! (load ! (from ! (fld ! {τ = tyBool} {d = 1} refl (stop !))) (look-in ! 11 (sub ! 1 {τ = tyBool} {d = 1} refl (whole !)))) (and-then ! (load ! (from ! (stop !)) (look ! 15 refl)) (no-more !))) (λ v1.
+          calls-at ! fm Call1 known-still-good (to1) (and-then ! (load ! (from ! (fld ! {τ = tyBool} {d = 1} refl (stop !))) (look-in ! 11 (sub ! 1 {τ = tyBool} {d = 1} refl (whole !)))) (and-then ! (load ! (from ! (stop !)) (look ! 15 refl)) (no-more !))) (λ v1.
           use1 W (later (some (λ (r1 : Bool). (‵ ftrue ⊛ ‵ (bool .own r1 (v1 ∷ []))) ⊛ raw (Got1 r1)))) (id⊢ 𝓤 _) $ await ! tt $ pick ! (λ r1.
           split ! $ move ! (1 ∷ []) $ use1 W (raw (fact 𝓤 (r1 ≡ ((h₀ .starting .good) && ok)))) (got1 r1) $ heard ! (r1 ≡ ((h₀ .starting .good) && ok)) (λ e1. split ! $ drop ! $ peeks ! bool (Is bool) (shows 𝓤 H A bool) r1 (v1 ∷ []) (λ is1. drop ! $
           land ! (from ! (stop !)) (init ! 8 refl (bool-lawful 𝓤 H A W .typed r1 _ is1 .0)) $
@@ -216,15 +216,15 @@ module _ {M : Type 1} (𝓤 : URA M) (H : Heap 𝓤) (A : Atoms 𝓤) (W : Given
         by ! (subst (λ (z : Fn). ent 𝓤 (⋆ 𝓤 H A (‵ (fobs γ (tRuntime.the-row .coded .code h₀)) ∷ ‵ (fbor κ (Body (mem tRuntime.the-row) blk off γ)) ∷ ‵ (flft κ share) ∷ [])) (WpFn 𝓤 H C Λ z (vptr blk off ∷ vbool ok ∷ []) Post)) fn-is walk-shape)
 
 module _ {M : Type 1} (𝓤 : URA M) (H : Heap 𝓤) (A : Atoms 𝓤) (W : Given 𝓤 H A) (at-mem : Memory → SProp 𝓤) (run : Routine → Fun 𝓤) (𝓣 : Tables 𝓤 H) where
-  walks : Triple 𝓤 (𝓣 .C #runtime·both) (tripleOf 𝓤 H A c-both.signature (c-both.spec 𝓤 H A at-mem run)) → Triple 𝓤 (𝓣 .C #runtime·try-from) (tripleOf 𝓤 H A c-try_from.signature (c-try_from.spec 𝓤 H A at-mem run)) → Walks 𝓤 H A f.ended stayed (WpFn 𝓤 H (𝓣 .C) (𝓣 .Λ) code.function) (f.clauses 𝓤 H A at-mem run)
-  walks known-both known-try-from = walked 𝓤 H A f.ended stayed (f.clauses 𝓤 H A at-mem run) (WpFn 𝓤 H (𝓣 .C) (𝓣 .Λ) code.function) (λ κs. (ptr-vals, (bool-vals, tt))) (λ κs. (mut-tells (named 0) (κs .0) tRuntime.the-row, (bool-tells, tt)))
-      (λ κs qs bounds a _ are. needs 𝓤 (Tries (a .0 .now)) _ (λ good. walk 𝓤 H A W at-mem run (κs .0) (qs .0) (a .0 .ptr .0) (a .0 .ptr .1) (a .0 .name) (a .0 .now) (a .1 .0) (are .1 .0) good 𝓣 known-both known-try-from))
+  walks : Triple 𝓤 (𝓣 .C #decide-start·still-good) (tripleOf 𝓤 H A c-still_good.signature (c-still_good.spec 𝓤 H A at-mem run)) → Triple 𝓤 (𝓣 .C #runtime·try-from) (tripleOf 𝓤 H A c-try_from.signature (c-try_from.spec 𝓤 H A at-mem run)) → Walks 𝓤 H A f.ended stayed (WpFn 𝓤 H (𝓣 .C) (𝓣 .Λ) code.function) (f.clauses 𝓤 H A at-mem run)
+  walks known-still-good known-try-from = walked 𝓤 H A f.ended stayed (f.clauses 𝓤 H A at-mem run) (WpFn 𝓤 H (𝓣 .C) (𝓣 .Λ) code.function) (λ κs. (ptr-vals, (bool-vals, tt))) (λ κs. (mut-tells (named 0) (κs .0) tRuntime.the-row, (bool-tells, tt)))
+      (λ κs qs bounds a _ are. needs 𝓤 (Tries (a .0 .now)) _ (λ good. walk 𝓤 H A W at-mem run (κs .0) (qs .0) (a .0 .ptr .0) (a .0 .ptr .1) (a .0 .name) (a .0 .now) (a .1 .0) (are .1 .0) good 𝓣 known-still-good known-try-from))
 
   slots-go : AllGo 𝓤 H A W 1 (f.signature .params) (f.ended .kept) stayed
   slots-go = (goes-ref 𝓤 H A W 1 0 tt (plain (λ _. tRuntime.the-row)), (goes-none 𝓤 H A W 1 (λ _. bool) yes (λ κs x f. refl), tt))
 
-  meets : Triple 𝓤 (𝓣 .C #runtime·both) (tripleOf 𝓤 H A c-both.signature (c-both.spec 𝓤 H A at-mem run)) → Triple 𝓤 (𝓣 .C #runtime·try-from) (tripleOf 𝓤 H A c-try_from.signature (c-try_from.spec 𝓤 H A at-mem run)) → Meets 𝓤 H A f.signature (WpFn 𝓤 H (𝓣 .C) (𝓣 .Λ) code.function) (f.spec 𝓤 H A at-mem run)
-  meets known-both known-try-from = walk-meets 𝓤 H A f.ended stayed W slots-go (f.clauses 𝓤 H A at-mem run) (WpFn 𝓤 H (𝓣 .C) (𝓣 .Λ) code.function) (WpFn-mono 𝓤 H (W .laws) 𝓣 code.function) (walks known-both known-try-from)
+  meets : Triple 𝓤 (𝓣 .C #decide-start·still-good) (tripleOf 𝓤 H A c-still_good.signature (c-still_good.spec 𝓤 H A at-mem run)) → Triple 𝓤 (𝓣 .C #runtime·try-from) (tripleOf 𝓤 H A c-try_from.signature (c-try_from.spec 𝓤 H A at-mem run)) → Meets 𝓤 H A f.signature (WpFn 𝓤 H (𝓣 .C) (𝓣 .Λ) code.function) (f.spec 𝓤 H A at-mem run)
+  meets known-still-good known-try-from = walk-meets 𝓤 H A f.ended stayed W slots-go (f.clauses 𝓤 H A at-mem run) (WpFn 𝓤 H (𝓣 .C) (𝓣 .Λ) code.function) (WpFn-mono 𝓤 H (W .laws) 𝓣 code.function) (walks known-still-good known-try-from)
 
 pub try-next-spec : {M : Type 1} → stated.statement M
 unfolding code.routine tablesOf
@@ -232,5 +232,5 @@ try-next-spec 𝓤 H 𝓜 𝓖 𝓡 =
     entered 𝓤 H (tripleOf 𝓤 H (𝓖 .A) f.signature (f.spec 𝓤 H (𝓖 .A) (𝓜 .mem) (𝓡 .run)))
     (tables 𝓤 H 𝓜 𝓡 code.env .C) (tables 𝓤 H 𝓜 𝓡 code.env .Λ) #runtime·try-next code.function (code.unfolded 𝓤 H 𝓜 𝓡)
     (meets 𝓤 H (𝓖 .A) (givenOf 𝓤 H 𝓜 𝓖) (𝓜 .mem) (𝓡 .run) (tablesOf 𝓤 H 𝓜 (tables 𝓤 H 𝓜 𝓡 code.env))
-    (cited 𝓤 H (tripleOf 𝓤 H (𝓖 .A) c-both.signature (c-both.spec 𝓤 H (𝓖 .A) (𝓜 .mem) (𝓡 .run))) 𝓜 𝓡 code.env #runtime·both c-both-def.routine code.calls-runtime·both (c-both-thm.met 𝓤 H 𝓜 𝓖 𝓡))
+    (cited 𝓤 H (tripleOf 𝓤 H (𝓖 .A) c-still_good.signature (c-still_good.spec 𝓤 H (𝓖 .A) (𝓜 .mem) (𝓡 .run))) 𝓜 𝓡 code.env #decide-start·still-good c-still_good-def.routine code.calls-decide-start·still-good (c-still_good-thm.met 𝓤 H 𝓜 𝓖 𝓡))
     (cited 𝓤 H (tripleOf 𝓤 H (𝓖 .A) c-try_from.signature (c-try_from.spec 𝓤 H (𝓖 .A) (𝓜 .mem) (𝓡 .run))) 𝓜 𝓡 code.env #runtime·try-from c-try_from-def.routine code.calls-runtime·try-from (c-try_from-thm.met 𝓤 H 𝓜 𝓖 𝓡)))
