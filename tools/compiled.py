@@ -1,6 +1,7 @@
 """Compiles programs that measure or show the proved sources, and are themselves not proved: the compiler's front end, without its proofs. Whether the
 sources are proved is what `rt ci` says."""
 import os
+import shutil
 import subprocess
 import sys
 
@@ -28,6 +29,14 @@ def crates(name):
             order.append(at)
     visit(name)
     return order
+
+
+def copied(source, folder):
+    """A program's source as the compiler wants it named. It stands as .rt.txt in the repository, where `rt ci` lets nothing unproved stand as .rt."""
+    os.makedirs(folder, exist_ok=True)
+    target = f'{folder}/{os.path.basename(source).removesuffix(".txt")}'
+    shutil.copy(source, target)
+    return target
 
 
 def words(main, crate, more, toolchain=f'{KIT}/toolchain', expected=None):

@@ -118,8 +118,10 @@ use state::Way;
 use state::Why;
 use state::bump_counter;
 use state::first_used;
+use state::held_without;
 use state::id_of;
 use state::owner_of;
+use state::soonest_with;
 use state::trips;
 ghost use Prim.Native.Nat.{_+_, _-_, _%_, _≤_, _<_};
 ghost use mathlib.Core.Bool.{true};
@@ -139,7 +141,7 @@ ghost use Rattle.rules.specs.With.{withEstopSeen};
 ghost use Rattle.state.specs.Axes.{firstDue, firstForbidden, firstHeld, usedFrom};
 ghost use Rattle.state.specs.State.{leaseIn, progressOf, afterTick, afterFallback, afterFellBack, phaseOf, outputOf, InBounds};
 ghost use Rattle.state.specs.declared.Answer.the-variants as Answered;
-ghost use Rattle.state.specs.Stores.{without, soonestWith, goesOn, awaiting as awaitingFor};
+ghost use Rattle.state.specs.Stores.{goesOn, awaiting as awaitingFor};
 ghost use Rattle.state.specs.declared.Awaited.the-variants.{Nothing, ObserveAfter, Record};
 ghost use Rattle.decide_reply.specs.Replies.{observationIn, seenBy};
 ghost use Rattle.decide_resume.specs.Searches.{ShowsSought};
@@ -405,26 +407,6 @@ fn way_waits(way: Way) -> Waiting
         Way::Ends => Waiting::NOTHING,
         Way::GoesOn => Waiting::NOTHING,
     }
-}
-
-// How many leases stand without the one of this slot.
-fn held_without(slot: LeaseSlot, held: u8) -> u8
-    ensures { λ r. ⌜ r ≡ without (leaseIn slot) held ⌝ }
-{
-    let presence = slot.presence;
-    match presence {
-        Presence::Absent => held,
-        Presence::Present => if held > 0 { held - 1 } else { 0 },
-    }
-}
-
-fn soonest_with(held: u8, soonest: u64) -> u64
-    ensures { λ r. ⌜ r ≡ soonestWith held soonest ⌝ }
-{
-    if held == 0 {
-        return 0xffff_ffff_ffff_ffff;
-    }
-    soonest
 }
 
 // The axis that a course clears; the spare one where it clears none.

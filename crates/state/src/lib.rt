@@ -25,7 +25,7 @@ ghost use Rattle.rules.specs.Receipts.{axisOr255, bump, event, isFallback, numb
 ghost use Rattle.rules.specs.Rules.{exhausted, leaseId, leaseOwner, refreshed as refreshedState, tripped as trippedState, fallback, trip};
 ghost use Rattle.state.specs.Axes.{firstUsed};
 ghost use Rattle.state.specs.State.{leaseIn, Tables, bookOf, progressOf, waits, afterTick, afterTrip, afterFallback, InBounds};
-ghost use Rattle.state.specs.Stores.{courseOf, Settles, Takes};
+ghost use Rattle.state.specs.Stores.{courseOf, without, soonestWith, Settles, Takes};
 
 // The call in hand.
 pub enum CallKind {
@@ -300,6 +300,27 @@ pub fn is_leased(slot: LeaseSlot) -> bool
         Presence::Absent => false,
         Presence::Present => true,
     }
+}
+
+// How many leases stand without the one of this slot.
+pub fn held_without(slot: LeaseSlot, held: u8) -> u8
+    ensures { λ r. ⌜ r ≡ without (leaseIn slot) held ⌝ }
+{
+    let presence = slot.presence;
+    match presence {
+        Presence::Absent => held,
+        Presence::Present => if held > 0 { held - 1 } else { 0 },
+    }
+}
+
+// Where no lease stands nothing ends.
+pub fn soonest_with(held: u8, soonest: u64) -> u64
+    ensures { λ r. ⌜ r ≡ soonestWith held soonest ⌝ }
+{
+    if held == 0 {
+        return 0xffff_ffff_ffff_ffff;
+    }
+    soonest
 }
 
 // record, event, refresh_state, trip -------------------------------------------------------------------------------------

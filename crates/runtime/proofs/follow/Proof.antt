@@ -125,14 +125,14 @@ use Rattle.state.proofs.owner_of as c-owner_of
 use Rattle.state.proofs.owner_of.Symbol as c-owner_of-def
 use Rattle.state.proofs.owner_of.Symbol.{name as #state·owner-of}
 use Rattle.state.proofs.owner_of.Met as c-owner_of-thm
-use Rattle.runtime.proofs.held_without as c-held_without
-use Rattle.runtime.proofs.held_without.Symbol as c-held_without-def
-use Rattle.runtime.proofs.held_without.Symbol.{name as #runtime·held-without}
-use Rattle.runtime.proofs.held_without.Met as c-held_without-thm
-use Rattle.runtime.proofs.soonest_with as c-soonest_with
-use Rattle.runtime.proofs.soonest_with.Symbol as c-soonest_with-def
-use Rattle.runtime.proofs.soonest_with.Symbol.{name as #runtime·soonest-with}
-use Rattle.runtime.proofs.soonest_with.Met as c-soonest_with-thm
+use Rattle.state.proofs.held_without as c-held_without
+use Rattle.state.proofs.held_without.Symbol as c-held_without-def
+use Rattle.state.proofs.held_without.Symbol.{name as #state·held-without}
+use Rattle.state.proofs.held_without.Met as c-held_without-thm
+use Rattle.state.proofs.soonest_with as c-soonest_with
+use Rattle.state.proofs.soonest_with.Symbol as c-soonest_with-def
+use Rattle.state.proofs.soonest_with.Symbol.{name as #state·soonest-with}
+use Rattle.state.proofs.soonest_with.Met as c-soonest_with-thm
 use Rattle.runtime.proofs.way_waits as c-way_waits
 use Rattle.runtime.proofs.way_waits.Symbol as c-way_waits-def
 use Rattle.runtime.proofs.way_waits.Symbol.{name as #runtime·way-waits}
@@ -144,7 +144,6 @@ use Rattle.runtime.proofs.follow.Code as code
 use Rattle.runtime.specs.Kept.{clears, waitsBy, followedIn}
 use Rattle.rules.specs.Rules.{leaseId, leaseOwner}
 use Rattle.state.specs.State.{leaseIn, InBounds}
-use Rattle.replay.specs.Ring.{held}
 use Rattle.state.specs.Stores.{without, soonestWith}
 use Rattle.runtime.specs.Promises.{Leaves}
 use Rattle.model.specs.Records.{noLease, noActive}
@@ -158,7 +157,7 @@ stayed = (stay-ref (0 ∷ []) tt (plain (λ _. tRuntime.the-row)), (stay-none (�
 
 -- its MIR is the one that is walked
 abbrev fn : Fn
-fn = record { lifetimes = 1; outlives = []; params = 2; locals = local tAnswer′.mir valueLocal ∷ local (tyRef (named 0) mut (pointee (tRuntime.the-row .written))) valueLocal ∷ local mirCourse valueLocal ∷ local (tyInt w64) valueLocal ∷ local mirLeaseSlot valueLocal ∷ local (tyInt w8) valueLocal ∷ local (tyInt w64) valueLocal ∷ local tyPtr valueLocal ∷ local tyPtr valueLocal ∷ local mirLeaseSlot valueLocal ∷ local (tyInt w64) valueLocal ∷ local (tyInt w8) valueLocal ∷ local (tyInt w64) valueLocal ∷ local mirWaiting valueLocal ∷ local tPresence′.mir valueLocal ∷ local tyPtr valueLocal ∷ local tyPtr valueLocal ∷ local tyPtr valueLocal ∷ local tyPtr valueLocal ∷ []; body = (seq (call #runtime·cleared ((copy (place 2 (field 8 ∷ []))) ∷ (copy (place 2 (field 0 ∷ field 1 ∷ []))) ∷ []) (place 3 [])) (seq (assign (place 6 []) (op2 (mul unsigned) (copy (place 3 [])) (int w64 80))) (seq (assign (place 7 []) (addrOf (place 1 (deref mirRuntime ∷ field 13 ∷ [])))) (seq (assign (place 8 []) (op2 offset (copy (place 7 [])) (copy (place 6 [])))) (seq (assign (place 9 []) (rvOpd (copy (place 8 (deref mirLeaseSlot ∷ []))))) (seq (assign (place 4 []) (rvOpd (copy (place 9 [])))) (seq (call #state·id-of ((copy (place 4 [])) ∷ []) (place 10 [])) (seq (assign (place 1 (deref mirRuntime ∷ field 7 ∷ field 0 ∷ [])) (rvOpd (copy (place 10 [])))) (seq (call #state·owner-of ((copy (place 4 [])) ∷ []) (place 10 [])) (seq (assign (place 1 (deref mirRuntime ∷ field 7 ∷ field 1 ∷ [])) (rvOpd (copy (place 10 [])))) (seq (assign (place 1 (deref mirRuntime ∷ field 6 ∷ field 0 ∷ [])) (rvOpd (copy (place 2 (field 0 ∷ field 0 ∷ []))))) (seq (assign (place 1 (deref mirRuntime ∷ field 6 ∷ field 1 ∷ [])) (rvOpd (copy (place 2 (field 0 ∷ field 1 ∷ []))))) (seq (assign (place 1 (deref mirRuntime ∷ field 6 ∷ field 2 ∷ [])) (rvOpd (copy (place 2 (field 0 ∷ field 2 ∷ []))))) (seq (assign (place 1 (deref mirRuntime ∷ field 6 ∷ field 3 ∷ [])) (rvOpd (copy (place 2 (field 0 ∷ field 3 ∷ []))))) (seq (assign (place 1 (deref mirRuntime ∷ field 6 ∷ field 4 ∷ [])) (rvOpd (copy (place 2 (field 0 ∷ field 4 ∷ []))))) (seq (assign (place 1 (deref mirRuntime ∷ field 6 ∷ field 5 ∷ [])) (rvOpd (copy (place 2 (field 0 ∷ field 5 ∷ []))))) (seq (assign (place 1 (deref mirRuntime ∷ field 6 ∷ field 6 ∷ [])) (rvOpd (copy (place 2 (field 0 ∷ field 6 ∷ []))))) (seq (assign (place 1 (deref mirRuntime ∷ field 1 ∷ field 4 ∷ [])) (rvOpd (copy (place 2 (field 1 ∷ []))))) (seq (assign (place 1 (deref mirRuntime ∷ field 1 ∷ field 3 ∷ [])) (rvOpd (copy (place 2 (field 2 ∷ []))))) (seq (assign (place 1 (deref mirRuntime ∷ field 1 ∷ field 2 ∷ [])) (rvOpd (copy (place 2 (field 3 ∷ []))))) (seq (assign (place 1 (deref mirRuntime ∷ field 1 ∷ field 5 ∷ [])) (rvOpd (copy (place 2 (field 4 ∷ []))))) (seq (assign (place 1 (deref mirRuntime ∷ field 1 ∷ field 6 ∷ [])) (rvOpd (copy (place 2 (field 5 ∷ []))))) (seq (assign (place 1 (deref mirRuntime ∷ field 1 ∷ field 7 ∷ [])) (rvOpd (copy (place 2 (field 6 ∷ []))))) (seq (assign (place 1 (deref mirRuntime ∷ field 1 ∷ field 8 ∷ [])) (rvOpd (copy (place 2 (field 7 ∷ []))))) (seq (assign (place 11 []) (rvOpd (copy (place 1 (deref mirRuntime ∷ field 1 ∷ field 9 ∷ []))))) (seq (call #runtime·held-without ((copy (place 4 [])) ∷ (copy (place 11 [])) ∷ []) (place 5 [])) (seq (assign (place 12 []) (rvOpd (copy (place 1 (deref mirRuntime ∷ field 1 ∷ field 10 ∷ []))))) (seq (call #runtime·soonest-with ((copy (place 5 [])) ∷ (copy (place 12 [])) ∷ []) (place 10 [])) (seq (assign (place 1 (deref mirRuntime ∷ field 1 ∷ field 10 ∷ [])) (rvOpd (copy (place 10 [])))) (seq (assign (place 1 (deref mirRuntime ∷ field 1 ∷ field 9 ∷ [])) (rvOpd (copy (place 5 [])))) (seq (call #runtime·way-waits ((copy (place 2 (field 8 ∷ []))) ∷ []) (place 13 [])) (seq (assign (place 1 (deref mirRuntime ∷ field 0 ∷ [])) (rvOpd (copy (place 13 [])))) (seq (assign (place 1 (deref mirRuntime ∷ field 5 ∷ [])) (rvOpd (copy (place 2 (field 10 ∷ []))))) (seq (assign (place 14 []) (aggregate ((int w8 0) ∷ []))) (seq (assign (place 6 []) (op2 (mul unsigned) (copy (place 3 [])) (int w64 80))) (seq (assign (place 15 []) (addrOf (place 1 (deref mirRuntime ∷ field 13 ∷ [])))) (seq (assign (place 16 []) (op2 offset (copy (place 15 [])) (copy (place 6 [])))) (seq (assign (place 16 (deref mirLeaseSlot ∷ field 0 ∷ [])) (rvOpd (copy (place 14 [])))) (seq (assign (place 14 []) (aggregate ((int w8 0) ∷ []))) (seq (assign (place 6 []) (op2 (mul unsigned) (copy (place 3 [])) (int w64 64))) (seq (assign (place 17 []) (addrOf (place 1 (deref mirRuntime ∷ field 14 ∷ [])))) (seq (assign (place 18 []) (op2 offset (copy (place 17 [])) (copy (place 6 [])))) (seq (assign (place 18 (deref mirActiveSlot ∷ field 0 ∷ [])) (rvOpd (copy (place 14 [])))) (seq (assign (place 0 []) (rvOpd (copy (place 2 (field 9 ∷ []))))) return)))))))))))))))))))))))))))))))))))))))))))) }
+fn = record { lifetimes = 1; outlives = []; params = 2; locals = local tAnswer′.mir valueLocal ∷ local (tyRef (named 0) mut (pointee (tRuntime.the-row .written))) valueLocal ∷ local mirCourse valueLocal ∷ local (tyInt w64) valueLocal ∷ local mirLeaseSlot valueLocal ∷ local (tyInt w8) valueLocal ∷ local (tyInt w64) valueLocal ∷ local tyPtr valueLocal ∷ local tyPtr valueLocal ∷ local mirLeaseSlot valueLocal ∷ local (tyInt w64) valueLocal ∷ local (tyInt w8) valueLocal ∷ local (tyInt w64) valueLocal ∷ local mirWaiting valueLocal ∷ local tPresence′.mir valueLocal ∷ local tyPtr valueLocal ∷ local tyPtr valueLocal ∷ local tyPtr valueLocal ∷ local tyPtr valueLocal ∷ []; body = (seq (call #runtime·cleared ((copy (place 2 (field 8 ∷ []))) ∷ (copy (place 2 (field 0 ∷ field 1 ∷ []))) ∷ []) (place 3 [])) (seq (assign (place 6 []) (op2 (mul unsigned) (copy (place 3 [])) (int w64 80))) (seq (assign (place 7 []) (addrOf (place 1 (deref mirRuntime ∷ field 13 ∷ [])))) (seq (assign (place 8 []) (op2 offset (copy (place 7 [])) (copy (place 6 [])))) (seq (assign (place 9 []) (rvOpd (copy (place 8 (deref mirLeaseSlot ∷ []))))) (seq (assign (place 4 []) (rvOpd (copy (place 9 [])))) (seq (call #state·id-of ((copy (place 4 [])) ∷ []) (place 10 [])) (seq (assign (place 1 (deref mirRuntime ∷ field 7 ∷ field 0 ∷ [])) (rvOpd (copy (place 10 [])))) (seq (call #state·owner-of ((copy (place 4 [])) ∷ []) (place 10 [])) (seq (assign (place 1 (deref mirRuntime ∷ field 7 ∷ field 1 ∷ [])) (rvOpd (copy (place 10 [])))) (seq (assign (place 1 (deref mirRuntime ∷ field 6 ∷ field 0 ∷ [])) (rvOpd (copy (place 2 (field 0 ∷ field 0 ∷ []))))) (seq (assign (place 1 (deref mirRuntime ∷ field 6 ∷ field 1 ∷ [])) (rvOpd (copy (place 2 (field 0 ∷ field 1 ∷ []))))) (seq (assign (place 1 (deref mirRuntime ∷ field 6 ∷ field 2 ∷ [])) (rvOpd (copy (place 2 (field 0 ∷ field 2 ∷ []))))) (seq (assign (place 1 (deref mirRuntime ∷ field 6 ∷ field 3 ∷ [])) (rvOpd (copy (place 2 (field 0 ∷ field 3 ∷ []))))) (seq (assign (place 1 (deref mirRuntime ∷ field 6 ∷ field 4 ∷ [])) (rvOpd (copy (place 2 (field 0 ∷ field 4 ∷ []))))) (seq (assign (place 1 (deref mirRuntime ∷ field 6 ∷ field 5 ∷ [])) (rvOpd (copy (place 2 (field 0 ∷ field 5 ∷ []))))) (seq (assign (place 1 (deref mirRuntime ∷ field 6 ∷ field 6 ∷ [])) (rvOpd (copy (place 2 (field 0 ∷ field 6 ∷ []))))) (seq (assign (place 1 (deref mirRuntime ∷ field 1 ∷ field 4 ∷ [])) (rvOpd (copy (place 2 (field 1 ∷ []))))) (seq (assign (place 1 (deref mirRuntime ∷ field 1 ∷ field 3 ∷ [])) (rvOpd (copy (place 2 (field 2 ∷ []))))) (seq (assign (place 1 (deref mirRuntime ∷ field 1 ∷ field 2 ∷ [])) (rvOpd (copy (place 2 (field 3 ∷ []))))) (seq (assign (place 1 (deref mirRuntime ∷ field 1 ∷ field 5 ∷ [])) (rvOpd (copy (place 2 (field 4 ∷ []))))) (seq (assign (place 1 (deref mirRuntime ∷ field 1 ∷ field 6 ∷ [])) (rvOpd (copy (place 2 (field 5 ∷ []))))) (seq (assign (place 1 (deref mirRuntime ∷ field 1 ∷ field 7 ∷ [])) (rvOpd (copy (place 2 (field 6 ∷ []))))) (seq (assign (place 1 (deref mirRuntime ∷ field 1 ∷ field 8 ∷ [])) (rvOpd (copy (place 2 (field 7 ∷ []))))) (seq (assign (place 11 []) (rvOpd (copy (place 1 (deref mirRuntime ∷ field 1 ∷ field 9 ∷ []))))) (seq (call #state·held-without ((copy (place 4 [])) ∷ (copy (place 11 [])) ∷ []) (place 5 [])) (seq (assign (place 12 []) (rvOpd (copy (place 1 (deref mirRuntime ∷ field 1 ∷ field 10 ∷ []))))) (seq (call #state·soonest-with ((copy (place 5 [])) ∷ (copy (place 12 [])) ∷ []) (place 10 [])) (seq (assign (place 1 (deref mirRuntime ∷ field 1 ∷ field 10 ∷ [])) (rvOpd (copy (place 10 [])))) (seq (assign (place 1 (deref mirRuntime ∷ field 1 ∷ field 9 ∷ [])) (rvOpd (copy (place 5 [])))) (seq (call #runtime·way-waits ((copy (place 2 (field 8 ∷ []))) ∷ []) (place 13 [])) (seq (assign (place 1 (deref mirRuntime ∷ field 0 ∷ [])) (rvOpd (copy (place 13 [])))) (seq (assign (place 1 (deref mirRuntime ∷ field 5 ∷ [])) (rvOpd (copy (place 2 (field 10 ∷ []))))) (seq (assign (place 14 []) (aggregate ((int w8 0) ∷ []))) (seq (assign (place 6 []) (op2 (mul unsigned) (copy (place 3 [])) (int w64 80))) (seq (assign (place 15 []) (addrOf (place 1 (deref mirRuntime ∷ field 13 ∷ [])))) (seq (assign (place 16 []) (op2 offset (copy (place 15 [])) (copy (place 6 [])))) (seq (assign (place 16 (deref mirLeaseSlot ∷ field 0 ∷ [])) (rvOpd (copy (place 14 [])))) (seq (assign (place 14 []) (aggregate ((int w8 0) ∷ []))) (seq (assign (place 6 []) (op2 (mul unsigned) (copy (place 3 [])) (int w64 64))) (seq (assign (place 17 []) (addrOf (place 1 (deref mirRuntime ∷ field 14 ∷ [])))) (seq (assign (place 18 []) (op2 offset (copy (place 17 [])) (copy (place 6 [])))) (seq (assign (place 18 (deref mirActiveSlot ∷ field 0 ∷ [])) (rvOpd (copy (place 14 [])))) (seq (assign (place 0 []) (rvOpd (copy (place 2 (field 9 ∷ []))))) return)))))))))))))))))))))))))))))))))))))))))))) }
 
 locals-is : fn .locals ≡ code.function .locals
 locals-is = refl
@@ -332,7 +331,7 @@ module _ {M : Type 1} (𝓤 : URA M) (H : Heap 𝓤) (A : Atoms 𝓤) (W : Given
   abbrev left1 : (v1 : Val) (r1 : ℕ) (v2 : Val) (r2 : ℕ) (v3 : Val) (r3 : ℕ) (v4 : Val) (r4 : ℕ) (v5 : Val) (r5 : ℕ) (v6 : Val) (r6 : Waiting) → Runtime
   left1 v1 r1 v2 r2 v3 r3 v4 r4 v5 r5 v6 r6 = record { waiting = waitsBy (course .way); numbers = record { «next_receipt» = h₀ .numbers .«next_receipt»; «next_lease» = h₀ .numbers .«next_lease»; epoch = course .epoch; «state_at» = course .«state_at»; «last_tick» = course .«last_tick»; flags = course .flags; «estop_seen» = course .«estop_seen»; «invalid_count» = course .«invalid_count»; mode = course .mode; held = without (leaseIn (getD (h₀ .leases) (clears (course .way) (course .falling .axis)) noLease)) (h₀ .numbers .held); soonest = soonestWith (without (leaseIn (getD (h₀ .leases) (clears (course .way) (course .falling .axis)) noLease)) (h₀ .numbers .held)) (h₀ .numbers .soonest) }; cursor = h₀ .cursor; slot = h₀ .slot; axis = h₀ .axis; why = course .why; falling = record { time = course .falling .time; axis = course .falling .axis; at = course .falling .at; reason = course .falling .reason; after = course .falling .after; good = course .falling .good; «after_trip» = course .falling .«after_trip» }; revoked = record { «lease_id» = leaseId (leaseIn (getD (h₀ .leases) (clears (course .way) (course .falling .axis)) noLease)); owner = leaseOwner (leaseIn (getD (h₀ .leases) (clears (course .way) (course .falling .axis)) noLease)); ok = h₀ .revoked .ok }; carrying = h₀ .carrying; pending = h₀ .pending; starting = h₀ .starting; fixed = h₀ .fixed; places = h₀ .places; leases = set (h₀ .leases) (clears (course .way) (course .falling .axis)) (record { presence = Presence.Absent; lease = (getD (h₀ .leases) (clears (course .way) (course .falling .axis)) noLease) .lease }); active = set (h₀ .active) (clears (course .way) (course .falling .axis)) (record { presence = Presence.Absent; active = (getD (h₀ .active) (clears (course .way) (course .falling .axis)) noActive) .active }); capabilities = h₀ .capabilities; replay = h₀ .replay; submission = h₀ .submission; request = h₀ .request; renewal = h₀ .renewal; submitted = h₀ .submitted; slots = h₀ .slots }
 
-  module _ (𝓣 : Tables 𝓤 H) (known-cleared : Triple 𝓤 (𝓣 .C #runtime·cleared) (tripleOf 𝓤 H A c-cleared.signature (c-cleared.spec 𝓤 H A at-mem run))) (known-id-of : Triple 𝓤 (𝓣 .C #state·id-of) (tripleOf 𝓤 H A c-id_of.signature (c-id_of.spec 𝓤 H A at-mem run))) (known-owner-of : Triple 𝓤 (𝓣 .C #state·owner-of) (tripleOf 𝓤 H A c-owner_of.signature (c-owner_of.spec 𝓤 H A at-mem run))) (known-held-without : Triple 𝓤 (𝓣 .C #runtime·held-without) (tripleOf 𝓤 H A c-held_without.signature (c-held_without.spec 𝓤 H A at-mem run))) (known-soonest-with : Triple 𝓤 (𝓣 .C #runtime·soonest-with) (tripleOf 𝓤 H A c-soonest_with.signature (c-soonest_with.spec 𝓤 H A at-mem run))) (known-way-waits : Triple 𝓤 (𝓣 .C #runtime·way-waits) (tripleOf 𝓤 H A c-way_waits.signature (c-way_waits.spec 𝓤 H A at-mem run))) where
+  module _ (𝓣 : Tables 𝓤 H) (known-cleared : Triple 𝓤 (𝓣 .C #runtime·cleared) (tripleOf 𝓤 H A c-cleared.signature (c-cleared.spec 𝓤 H A at-mem run))) (known-id-of : Triple 𝓤 (𝓣 .C #state·id-of) (tripleOf 𝓤 H A c-id_of.signature (c-id_of.spec 𝓤 H A at-mem run))) (known-owner-of : Triple 𝓤 (𝓣 .C #state·owner-of) (tripleOf 𝓤 H A c-owner_of.signature (c-owner_of.spec 𝓤 H A at-mem run))) (known-held-without : Triple 𝓤 (𝓣 .C #state·held-without) (tripleOf 𝓤 H A c-held_without.signature (c-held_without.spec 𝓤 H A at-mem run))) (known-soonest-with : Triple 𝓤 (𝓣 .C #state·soonest-with) (tripleOf 𝓤 H A c-soonest_with.signature (c-soonest_with.spec 𝓤 H A at-mem run))) (known-way-waits : Triple 𝓤 (𝓣 .C #runtime·way-waits) (tripleOf 𝓤 H A c-way_waits.signature (c-way_waits.spec 𝓤 H A at-mem run))) where
     abbrev C : Calls 𝓤 H
     C = 𝓣 .C
 
@@ -346,7 +345,7 @@ module _ {M : Type 1} (𝓤 : URA M) (H : Heap 𝓤) (A : Atoms 𝓤) (W : Given
       abbrev En : Env 𝓤 H
       En = (tAnswer′.mir, l₀) ∷ ((tyRef (named 0) mut (pointee (tRuntime.the-row .written))), l₁) ∷ (mirCourse, l₂) ∷ ((tyInt w64), l₃) ∷ (mirLeaseSlot, l₄) ∷ ((tyInt w8), l₅) ∷ ((tyInt w64), l₆) ∷ (tyPtr, l₇) ∷ (tyPtr, l₈) ∷ (mirLeaseSlot, l₉) ∷ ((tyInt w64), l₁₀) ∷ ((tyInt w8), l₁₁) ∷ ((tyInt w64), l₁₂) ∷ (mirWaiting, l₁₃) ∷ (tPresence′.mir, l₁₄) ∷ (tyPtr, l₁₅) ∷ (tyPtr, l₁₆) ∷ (tyPtr, l₁₇) ∷ (tyPtr, l₁₈) ∷ []
 
-      body-from : Sq W (‵ (froom tyPtr l₁₈ 0) ∷ ‵ (fdies tyPtr l₁₈) ∷ ‵ (froom tyPtr l₁₇ 0) ∷ ‵ (fdies tyPtr l₁₇) ∷ ‵ (froom tyPtr l₁₆ 0) ∷ ‵ (fdies tyPtr l₁₆) ∷ ‵ (froom tyPtr l₁₅ 0) ∷ ‵ (fdies tyPtr l₁₅) ∷ ‵ (froom tPresence′.mir l₁₄ 0) ∷ ‵ (fdies tPresence′.mir l₁₄) ∷ ‵ (froom mirWaiting l₁₃ 0) ∷ ‵ (fdies mirWaiting l₁₃) ∷ ‵ (froom (tyInt w64) l₁₂ 0) ∷ ‵ (fdies (tyInt w64) l₁₂) ∷ ‵ (froom (tyInt w8) l₁₁ 0) ∷ ‵ (fdies (tyInt w8) l₁₁) ∷ ‵ (froom (tyInt w64) l₁₀ 0) ∷ ‵ (fdies (tyInt w64) l₁₀) ∷ ‵ (froom mirLeaseSlot l₉ 0) ∷ ‵ (fdies mirLeaseSlot l₉) ∷ ‵ (froom tyPtr l₈ 0) ∷ ‵ (fdies tyPtr l₈) ∷ ‵ (froom tyPtr l₇ 0) ∷ ‵ (fdies tyPtr l₇) ∷ ‵ (froom (tyInt w64) l₆ 0) ∷ ‵ (fdies (tyInt w64) l₆) ∷ ‵ (froom (tyInt w8) l₅ 0) ∷ ‵ (fdies (tyInt w8) l₅) ∷ ‵ (froom mirLeaseSlot l₄ 0) ∷ ‵ (fdies mirLeaseSlot l₄) ∷ ‵ (froom (tyInt w64) l₃ 0) ∷ ‵ (fdies (tyInt w64) l₃) ∷ ‵ (fat fullShare mirCourse l₂ 0 (vCourse course)) ∷ ‵ (fdies mirCourse l₂) ∷ ‵ (fat fullShare (tyRef (named 0) mut (pointee (tRuntime.the-row .written))) l₁ 0 (vptr blk off)) ∷ ‵ (fdies (tyRef (named 0) mut (pointee (tRuntime.the-row .written))) l₁) ∷ ‵ (froom tAnswer′.mir l₀ 0) ∷ ‵ (fdies tAnswer′.mir l₀) ∷ ‵ (fobs γ (tRuntime.the-row .coded .code h₀)) ∷ ‵ (fbor κ (Body (mem tRuntime.the-row) blk off γ)) ∷ ‵ (flft κ share) ∷ []) (runs C Λ En (seq (call #runtime·cleared ((copy (place 2 (field 8 ∷ []))) ∷ (copy (place 2 (field 0 ∷ field 1 ∷ []))) ∷ []) (place 3 [])) (seq (assign (place 6 []) (op2 (mul unsigned) (copy (place 3 [])) (int w64 80))) (seq (assign (place 7 []) (addrOf (place 1 (deref mirRuntime ∷ field 13 ∷ [])))) (seq (assign (place 8 []) (op2 offset (copy (place 7 [])) (copy (place 6 [])))) (seq (assign (place 9 []) (rvOpd (copy (place 8 (deref mirLeaseSlot ∷ []))))) (seq (assign (place 4 []) (rvOpd (copy (place 9 [])))) (seq (call #state·id-of ((copy (place 4 [])) ∷ []) (place 10 [])) (seq (assign (place 1 (deref mirRuntime ∷ field 7 ∷ field 0 ∷ [])) (rvOpd (copy (place 10 [])))) (seq (call #state·owner-of ((copy (place 4 [])) ∷ []) (place 10 [])) (seq (assign (place 1 (deref mirRuntime ∷ field 7 ∷ field 1 ∷ [])) (rvOpd (copy (place 10 [])))) (seq (assign (place 1 (deref mirRuntime ∷ field 6 ∷ field 0 ∷ [])) (rvOpd (copy (place 2 (field 0 ∷ field 0 ∷ []))))) (seq (assign (place 1 (deref mirRuntime ∷ field 6 ∷ field 1 ∷ [])) (rvOpd (copy (place 2 (field 0 ∷ field 1 ∷ []))))) (seq (assign (place 1 (deref mirRuntime ∷ field 6 ∷ field 2 ∷ [])) (rvOpd (copy (place 2 (field 0 ∷ field 2 ∷ []))))) (seq (assign (place 1 (deref mirRuntime ∷ field 6 ∷ field 3 ∷ [])) (rvOpd (copy (place 2 (field 0 ∷ field 3 ∷ []))))) (seq (assign (place 1 (deref mirRuntime ∷ field 6 ∷ field 4 ∷ [])) (rvOpd (copy (place 2 (field 0 ∷ field 4 ∷ []))))) (seq (assign (place 1 (deref mirRuntime ∷ field 6 ∷ field 5 ∷ [])) (rvOpd (copy (place 2 (field 0 ∷ field 5 ∷ []))))) (seq (assign (place 1 (deref mirRuntime ∷ field 6 ∷ field 6 ∷ [])) (rvOpd (copy (place 2 (field 0 ∷ field 6 ∷ []))))) (seq (assign (place 1 (deref mirRuntime ∷ field 1 ∷ field 4 ∷ [])) (rvOpd (copy (place 2 (field 1 ∷ []))))) (seq (assign (place 1 (deref mirRuntime ∷ field 1 ∷ field 3 ∷ [])) (rvOpd (copy (place 2 (field 2 ∷ []))))) (seq (assign (place 1 (deref mirRuntime ∷ field 1 ∷ field 2 ∷ [])) (rvOpd (copy (place 2 (field 3 ∷ []))))) (seq (assign (place 1 (deref mirRuntime ∷ field 1 ∷ field 5 ∷ [])) (rvOpd (copy (place 2 (field 4 ∷ []))))) (seq (assign (place 1 (deref mirRuntime ∷ field 1 ∷ field 6 ∷ [])) (rvOpd (copy (place 2 (field 5 ∷ []))))) (seq (assign (place 1 (deref mirRuntime ∷ field 1 ∷ field 7 ∷ [])) (rvOpd (copy (place 2 (field 6 ∷ []))))) (seq (assign (place 1 (deref mirRuntime ∷ field 1 ∷ field 8 ∷ [])) (rvOpd (copy (place 2 (field 7 ∷ []))))) (seq (assign (place 11 []) (rvOpd (copy (place 1 (deref mirRuntime ∷ field 1 ∷ field 9 ∷ []))))) (seq (call #runtime·held-without ((copy (place 4 [])) ∷ (copy (place 11 [])) ∷ []) (place 5 [])) (seq (assign (place 12 []) (rvOpd (copy (place 1 (deref mirRuntime ∷ field 1 ∷ field 10 ∷ []))))) (seq (call #runtime·soonest-with ((copy (place 5 [])) ∷ (copy (place 12 [])) ∷ []) (place 10 [])) (seq (assign (place 1 (deref mirRuntime ∷ field 1 ∷ field 10 ∷ [])) (rvOpd (copy (place 10 [])))) (seq (assign (place 1 (deref mirRuntime ∷ field 1 ∷ field 9 ∷ [])) (rvOpd (copy (place 5 [])))) (seq (call #runtime·way-waits ((copy (place 2 (field 8 ∷ []))) ∷ []) (place 13 [])) (seq (assign (place 1 (deref mirRuntime ∷ field 0 ∷ [])) (rvOpd (copy (place 13 [])))) (seq (assign (place 1 (deref mirRuntime ∷ field 5 ∷ [])) (rvOpd (copy (place 2 (field 10 ∷ []))))) (seq (assign (place 14 []) (aggregate ((int w8 0) ∷ []))) (seq (assign (place 6 []) (op2 (mul unsigned) (copy (place 3 [])) (int w64 80))) (seq (assign (place 15 []) (addrOf (place 1 (deref mirRuntime ∷ field 13 ∷ [])))) (seq (assign (place 16 []) (op2 offset (copy (place 15 [])) (copy (place 6 [])))) (seq (assign (place 16 (deref mirLeaseSlot ∷ field 0 ∷ [])) (rvOpd (copy (place 14 [])))) (seq (assign (place 14 []) (aggregate ((int w8 0) ∷ []))) (seq (assign (place 6 []) (op2 (mul unsigned) (copy (place 3 [])) (int w64 64))) (seq (assign (place 17 []) (addrOf (place 1 (deref mirRuntime ∷ field 14 ∷ [])))) (seq (assign (place 18 []) (op2 offset (copy (place 17 [])) (copy (place 6 [])))) (seq (assign (place 18 (deref mirActiveSlot ∷ field 0 ∷ [])) (rvOpd (copy (place 14 [])))) (seq (assign (place 0 []) (rvOpd (copy (place 2 (field 9 ∷ []))))) return)))))))))))))))))))))))))))))))))))))))))))) (atRet En Post))
+      body-from : Sq W (‵ (froom tyPtr l₁₈ 0) ∷ ‵ (fdies tyPtr l₁₈) ∷ ‵ (froom tyPtr l₁₇ 0) ∷ ‵ (fdies tyPtr l₁₇) ∷ ‵ (froom tyPtr l₁₆ 0) ∷ ‵ (fdies tyPtr l₁₆) ∷ ‵ (froom tyPtr l₁₅ 0) ∷ ‵ (fdies tyPtr l₁₅) ∷ ‵ (froom tPresence′.mir l₁₄ 0) ∷ ‵ (fdies tPresence′.mir l₁₄) ∷ ‵ (froom mirWaiting l₁₃ 0) ∷ ‵ (fdies mirWaiting l₁₃) ∷ ‵ (froom (tyInt w64) l₁₂ 0) ∷ ‵ (fdies (tyInt w64) l₁₂) ∷ ‵ (froom (tyInt w8) l₁₁ 0) ∷ ‵ (fdies (tyInt w8) l₁₁) ∷ ‵ (froom (tyInt w64) l₁₀ 0) ∷ ‵ (fdies (tyInt w64) l₁₀) ∷ ‵ (froom mirLeaseSlot l₉ 0) ∷ ‵ (fdies mirLeaseSlot l₉) ∷ ‵ (froom tyPtr l₈ 0) ∷ ‵ (fdies tyPtr l₈) ∷ ‵ (froom tyPtr l₇ 0) ∷ ‵ (fdies tyPtr l₇) ∷ ‵ (froom (tyInt w64) l₆ 0) ∷ ‵ (fdies (tyInt w64) l₆) ∷ ‵ (froom (tyInt w8) l₅ 0) ∷ ‵ (fdies (tyInt w8) l₅) ∷ ‵ (froom mirLeaseSlot l₄ 0) ∷ ‵ (fdies mirLeaseSlot l₄) ∷ ‵ (froom (tyInt w64) l₃ 0) ∷ ‵ (fdies (tyInt w64) l₃) ∷ ‵ (fat fullShare mirCourse l₂ 0 (vCourse course)) ∷ ‵ (fdies mirCourse l₂) ∷ ‵ (fat fullShare (tyRef (named 0) mut (pointee (tRuntime.the-row .written))) l₁ 0 (vptr blk off)) ∷ ‵ (fdies (tyRef (named 0) mut (pointee (tRuntime.the-row .written))) l₁) ∷ ‵ (froom tAnswer′.mir l₀ 0) ∷ ‵ (fdies tAnswer′.mir l₀) ∷ ‵ (fobs γ (tRuntime.the-row .coded .code h₀)) ∷ ‵ (fbor κ (Body (mem tRuntime.the-row) blk off γ)) ∷ ‵ (flft κ share) ∷ []) (runs C Λ En (seq (call #runtime·cleared ((copy (place 2 (field 8 ∷ []))) ∷ (copy (place 2 (field 0 ∷ field 1 ∷ []))) ∷ []) (place 3 [])) (seq (assign (place 6 []) (op2 (mul unsigned) (copy (place 3 [])) (int w64 80))) (seq (assign (place 7 []) (addrOf (place 1 (deref mirRuntime ∷ field 13 ∷ [])))) (seq (assign (place 8 []) (op2 offset (copy (place 7 [])) (copy (place 6 [])))) (seq (assign (place 9 []) (rvOpd (copy (place 8 (deref mirLeaseSlot ∷ []))))) (seq (assign (place 4 []) (rvOpd (copy (place 9 [])))) (seq (call #state·id-of ((copy (place 4 [])) ∷ []) (place 10 [])) (seq (assign (place 1 (deref mirRuntime ∷ field 7 ∷ field 0 ∷ [])) (rvOpd (copy (place 10 [])))) (seq (call #state·owner-of ((copy (place 4 [])) ∷ []) (place 10 [])) (seq (assign (place 1 (deref mirRuntime ∷ field 7 ∷ field 1 ∷ [])) (rvOpd (copy (place 10 [])))) (seq (assign (place 1 (deref mirRuntime ∷ field 6 ∷ field 0 ∷ [])) (rvOpd (copy (place 2 (field 0 ∷ field 0 ∷ []))))) (seq (assign (place 1 (deref mirRuntime ∷ field 6 ∷ field 1 ∷ [])) (rvOpd (copy (place 2 (field 0 ∷ field 1 ∷ []))))) (seq (assign (place 1 (deref mirRuntime ∷ field 6 ∷ field 2 ∷ [])) (rvOpd (copy (place 2 (field 0 ∷ field 2 ∷ []))))) (seq (assign (place 1 (deref mirRuntime ∷ field 6 ∷ field 3 ∷ [])) (rvOpd (copy (place 2 (field 0 ∷ field 3 ∷ []))))) (seq (assign (place 1 (deref mirRuntime ∷ field 6 ∷ field 4 ∷ [])) (rvOpd (copy (place 2 (field 0 ∷ field 4 ∷ []))))) (seq (assign (place 1 (deref mirRuntime ∷ field 6 ∷ field 5 ∷ [])) (rvOpd (copy (place 2 (field 0 ∷ field 5 ∷ []))))) (seq (assign (place 1 (deref mirRuntime ∷ field 6 ∷ field 6 ∷ [])) (rvOpd (copy (place 2 (field 0 ∷ field 6 ∷ []))))) (seq (assign (place 1 (deref mirRuntime ∷ field 1 ∷ field 4 ∷ [])) (rvOpd (copy (place 2 (field 1 ∷ []))))) (seq (assign (place 1 (deref mirRuntime ∷ field 1 ∷ field 3 ∷ [])) (rvOpd (copy (place 2 (field 2 ∷ []))))) (seq (assign (place 1 (deref mirRuntime ∷ field 1 ∷ field 2 ∷ [])) (rvOpd (copy (place 2 (field 3 ∷ []))))) (seq (assign (place 1 (deref mirRuntime ∷ field 1 ∷ field 5 ∷ [])) (rvOpd (copy (place 2 (field 4 ∷ []))))) (seq (assign (place 1 (deref mirRuntime ∷ field 1 ∷ field 6 ∷ [])) (rvOpd (copy (place 2 (field 5 ∷ []))))) (seq (assign (place 1 (deref mirRuntime ∷ field 1 ∷ field 7 ∷ [])) (rvOpd (copy (place 2 (field 6 ∷ []))))) (seq (assign (place 1 (deref mirRuntime ∷ field 1 ∷ field 8 ∷ [])) (rvOpd (copy (place 2 (field 7 ∷ []))))) (seq (assign (place 11 []) (rvOpd (copy (place 1 (deref mirRuntime ∷ field 1 ∷ field 9 ∷ []))))) (seq (call #state·held-without ((copy (place 4 [])) ∷ (copy (place 11 [])) ∷ []) (place 5 [])) (seq (assign (place 12 []) (rvOpd (copy (place 1 (deref mirRuntime ∷ field 1 ∷ field 10 ∷ []))))) (seq (call #state·soonest-with ((copy (place 5 [])) ∷ (copy (place 12 [])) ∷ []) (place 10 [])) (seq (assign (place 1 (deref mirRuntime ∷ field 1 ∷ field 10 ∷ [])) (rvOpd (copy (place 10 [])))) (seq (assign (place 1 (deref mirRuntime ∷ field 1 ∷ field 9 ∷ [])) (rvOpd (copy (place 5 [])))) (seq (call #runtime·way-waits ((copy (place 2 (field 8 ∷ []))) ∷ []) (place 13 [])) (seq (assign (place 1 (deref mirRuntime ∷ field 0 ∷ [])) (rvOpd (copy (place 13 [])))) (seq (assign (place 1 (deref mirRuntime ∷ field 5 ∷ [])) (rvOpd (copy (place 2 (field 10 ∷ []))))) (seq (assign (place 14 []) (aggregate ((int w8 0) ∷ []))) (seq (assign (place 6 []) (op2 (mul unsigned) (copy (place 3 [])) (int w64 80))) (seq (assign (place 15 []) (addrOf (place 1 (deref mirRuntime ∷ field 13 ∷ [])))) (seq (assign (place 16 []) (op2 offset (copy (place 15 [])) (copy (place 6 [])))) (seq (assign (place 16 (deref mirLeaseSlot ∷ field 0 ∷ [])) (rvOpd (copy (place 14 [])))) (seq (assign (place 14 []) (aggregate ((int w8 0) ∷ []))) (seq (assign (place 6 []) (op2 (mul unsigned) (copy (place 3 [])) (int w64 64))) (seq (assign (place 17 []) (addrOf (place 1 (deref mirRuntime ∷ field 14 ∷ [])))) (seq (assign (place 18 []) (op2 offset (copy (place 17 [])) (copy (place 6 [])))) (seq (assign (place 18 (deref mirActiveSlot ∷ field 0 ∷ [])) (rvOpd (copy (place 14 [])))) (seq (assign (place 0 []) (rvOpd (copy (place 2 (field 9 ∷ []))))) return)))))))))))))))))))))))))))))))))))))))))))) (atRet En Post))
       body-from =
           move ! (38 ∷ 39 ∷ 40 ∷ []) $
           use0 W (raw (Call1 .pre (to1))) (goes1 (LL.owed tCourse.the-type tCourse′.the-laws course (vCourse course ∷ []) course-is .1 .1 .1 .1 .1 .1 .1 .1 .0) (LL.owed tFalling.the-type tFalling′.the-laws (course .falling) (vFalling (course .falling) ∷ []) (LL.owed tCourse.the-type tCourse′.the-laws course (vCourse course ∷ []) course-is .0) .1 .0)) $
@@ -444,14 +443,14 @@ module _ {M : Type 1} (𝓤 : URA M) (H : Heap 𝓤) (A : Atoms 𝓤) (W : Given
         by ! (subst (λ (z : Fn). ent 𝓤 (⋆ 𝓤 H A (‵ (fobs γ (tRuntime.the-row .coded .code h₀)) ∷ ‵ (fbor κ (Body (mem tRuntime.the-row) blk off γ)) ∷ ‵ (flft κ share) ∷ [])) (WpFn 𝓤 H C Λ z (vptr blk off ∷ vCourse course ∷ []) Post)) fn-is walk-shape)
 
 module _ {M : Type 1} (𝓤 : URA M) (H : Heap 𝓤) (A : Atoms 𝓤) (W : Given 𝓤 H A) (at-mem : Memory → SProp 𝓤) (run : Routine → Fun 𝓤) (𝓣 : Tables 𝓤 H) where
-  walks : Triple 𝓤 (𝓣 .C #runtime·cleared) (tripleOf 𝓤 H A c-cleared.signature (c-cleared.spec 𝓤 H A at-mem run)) → Triple 𝓤 (𝓣 .C #state·id-of) (tripleOf 𝓤 H A c-id_of.signature (c-id_of.spec 𝓤 H A at-mem run)) → Triple 𝓤 (𝓣 .C #state·owner-of) (tripleOf 𝓤 H A c-owner_of.signature (c-owner_of.spec 𝓤 H A at-mem run)) → Triple 𝓤 (𝓣 .C #runtime·held-without) (tripleOf 𝓤 H A c-held_without.signature (c-held_without.spec 𝓤 H A at-mem run)) → Triple 𝓤 (𝓣 .C #runtime·soonest-with) (tripleOf 𝓤 H A c-soonest_with.signature (c-soonest_with.spec 𝓤 H A at-mem run)) → Triple 𝓤 (𝓣 .C #runtime·way-waits) (tripleOf 𝓤 H A c-way_waits.signature (c-way_waits.spec 𝓤 H A at-mem run)) → Walks 𝓤 H A f.ended stayed (WpFn 𝓤 H (𝓣 .C) (𝓣 .Λ) code.function) (f.clauses 𝓤 H A at-mem run)
+  walks : Triple 𝓤 (𝓣 .C #runtime·cleared) (tripleOf 𝓤 H A c-cleared.signature (c-cleared.spec 𝓤 H A at-mem run)) → Triple 𝓤 (𝓣 .C #state·id-of) (tripleOf 𝓤 H A c-id_of.signature (c-id_of.spec 𝓤 H A at-mem run)) → Triple 𝓤 (𝓣 .C #state·owner-of) (tripleOf 𝓤 H A c-owner_of.signature (c-owner_of.spec 𝓤 H A at-mem run)) → Triple 𝓤 (𝓣 .C #state·held-without) (tripleOf 𝓤 H A c-held_without.signature (c-held_without.spec 𝓤 H A at-mem run)) → Triple 𝓤 (𝓣 .C #state·soonest-with) (tripleOf 𝓤 H A c-soonest_with.signature (c-soonest_with.spec 𝓤 H A at-mem run)) → Triple 𝓤 (𝓣 .C #runtime·way-waits) (tripleOf 𝓤 H A c-way_waits.signature (c-way_waits.spec 𝓤 H A at-mem run)) → Walks 𝓤 H A f.ended stayed (WpFn 𝓤 H (𝓣 .C) (𝓣 .Λ) code.function) (f.clauses 𝓤 H A at-mem run)
   walks known-cleared known-id-of known-owner-of known-held-without known-soonest-with known-way-waits = walked 𝓤 H A f.ended stayed (f.clauses 𝓤 H A at-mem run) (WpFn 𝓤 H (𝓣 .C) (𝓣 .Λ) code.function) (λ κs. (ptr-vals, (LL.vals tCourse.the-type tCourse′.the-laws, tt))) (λ κs. (mut-tells (named 0) (κs .0) tRuntime.the-row, (LL.tells tCourse.the-type tCourse′.the-laws, tt)))
       (λ κs qs bounds a _ are. needs 𝓤 (InBounds ((a .1 .0) .falling)) _ (λ good. walk 𝓤 H A W at-mem run (κs .0) (qs .0) (a .0 .ptr .0) (a .0 .ptr .1) (a .0 .name) (a .0 .now) (a .1 .0) (are .1 .0) good 𝓣 known-cleared known-id-of known-owner-of known-held-without known-soonest-with known-way-waits))
 
   slots-go : AllGo 𝓤 H A W 1 (f.signature .params) (f.ended .kept) stayed
   slots-go = (goes-ref 𝓤 H A W 1 0 tt (plain (λ _. tRuntime.the-row)), (goes-none 𝓤 H A W 1 (λ _. tCourse.the-row) yes (λ κs x f. refl), tt))
 
-  meets : Triple 𝓤 (𝓣 .C #runtime·cleared) (tripleOf 𝓤 H A c-cleared.signature (c-cleared.spec 𝓤 H A at-mem run)) → Triple 𝓤 (𝓣 .C #state·id-of) (tripleOf 𝓤 H A c-id_of.signature (c-id_of.spec 𝓤 H A at-mem run)) → Triple 𝓤 (𝓣 .C #state·owner-of) (tripleOf 𝓤 H A c-owner_of.signature (c-owner_of.spec 𝓤 H A at-mem run)) → Triple 𝓤 (𝓣 .C #runtime·held-without) (tripleOf 𝓤 H A c-held_without.signature (c-held_without.spec 𝓤 H A at-mem run)) → Triple 𝓤 (𝓣 .C #runtime·soonest-with) (tripleOf 𝓤 H A c-soonest_with.signature (c-soonest_with.spec 𝓤 H A at-mem run)) → Triple 𝓤 (𝓣 .C #runtime·way-waits) (tripleOf 𝓤 H A c-way_waits.signature (c-way_waits.spec 𝓤 H A at-mem run)) → Meets 𝓤 H A f.signature (WpFn 𝓤 H (𝓣 .C) (𝓣 .Λ) code.function) (f.spec 𝓤 H A at-mem run)
+  meets : Triple 𝓤 (𝓣 .C #runtime·cleared) (tripleOf 𝓤 H A c-cleared.signature (c-cleared.spec 𝓤 H A at-mem run)) → Triple 𝓤 (𝓣 .C #state·id-of) (tripleOf 𝓤 H A c-id_of.signature (c-id_of.spec 𝓤 H A at-mem run)) → Triple 𝓤 (𝓣 .C #state·owner-of) (tripleOf 𝓤 H A c-owner_of.signature (c-owner_of.spec 𝓤 H A at-mem run)) → Triple 𝓤 (𝓣 .C #state·held-without) (tripleOf 𝓤 H A c-held_without.signature (c-held_without.spec 𝓤 H A at-mem run)) → Triple 𝓤 (𝓣 .C #state·soonest-with) (tripleOf 𝓤 H A c-soonest_with.signature (c-soonest_with.spec 𝓤 H A at-mem run)) → Triple 𝓤 (𝓣 .C #runtime·way-waits) (tripleOf 𝓤 H A c-way_waits.signature (c-way_waits.spec 𝓤 H A at-mem run)) → Meets 𝓤 H A f.signature (WpFn 𝓤 H (𝓣 .C) (𝓣 .Λ) code.function) (f.spec 𝓤 H A at-mem run)
   meets known-cleared known-id-of known-owner-of known-held-without known-soonest-with known-way-waits = walk-meets 𝓤 H A f.ended stayed W slots-go (f.clauses 𝓤 H A at-mem run) (WpFn 𝓤 H (𝓣 .C) (𝓣 .Λ) code.function) (WpFn-mono 𝓤 H (W .laws) 𝓣 code.function) (walks known-cleared known-id-of known-owner-of known-held-without known-soonest-with known-way-waits)
 
 pub follow-spec : {M : Type 1} → stated.statement M
@@ -463,6 +462,6 @@ follow-spec 𝓤 H 𝓜 𝓖 𝓡 =
     (cited 𝓤 H (tripleOf 𝓤 H (𝓖 .A) c-cleared.signature (c-cleared.spec 𝓤 H (𝓖 .A) (𝓜 .mem) (𝓡 .run))) 𝓜 𝓡 code.env #runtime·cleared c-cleared-def.routine code.calls-runtime·cleared (c-cleared-thm.met 𝓤 H 𝓜 𝓖 𝓡))
     (cited 𝓤 H (tripleOf 𝓤 H (𝓖 .A) c-id_of.signature (c-id_of.spec 𝓤 H (𝓖 .A) (𝓜 .mem) (𝓡 .run))) 𝓜 𝓡 code.env #state·id-of c-id_of-def.routine code.calls-state·id-of (c-id_of-thm.met 𝓤 H 𝓜 𝓖 𝓡))
     (cited 𝓤 H (tripleOf 𝓤 H (𝓖 .A) c-owner_of.signature (c-owner_of.spec 𝓤 H (𝓖 .A) (𝓜 .mem) (𝓡 .run))) 𝓜 𝓡 code.env #state·owner-of c-owner_of-def.routine code.calls-state·owner-of (c-owner_of-thm.met 𝓤 H 𝓜 𝓖 𝓡))
-    (cited 𝓤 H (tripleOf 𝓤 H (𝓖 .A) c-held_without.signature (c-held_without.spec 𝓤 H (𝓖 .A) (𝓜 .mem) (𝓡 .run))) 𝓜 𝓡 code.env #runtime·held-without c-held_without-def.routine code.calls-runtime·held-without (c-held_without-thm.met 𝓤 H 𝓜 𝓖 𝓡))
-    (cited 𝓤 H (tripleOf 𝓤 H (𝓖 .A) c-soonest_with.signature (c-soonest_with.spec 𝓤 H (𝓖 .A) (𝓜 .mem) (𝓡 .run))) 𝓜 𝓡 code.env #runtime·soonest-with c-soonest_with-def.routine code.calls-runtime·soonest-with (c-soonest_with-thm.met 𝓤 H 𝓜 𝓖 𝓡))
+    (cited 𝓤 H (tripleOf 𝓤 H (𝓖 .A) c-held_without.signature (c-held_without.spec 𝓤 H (𝓖 .A) (𝓜 .mem) (𝓡 .run))) 𝓜 𝓡 code.env #state·held-without c-held_without-def.routine code.calls-state·held-without (c-held_without-thm.met 𝓤 H 𝓜 𝓖 𝓡))
+    (cited 𝓤 H (tripleOf 𝓤 H (𝓖 .A) c-soonest_with.signature (c-soonest_with.spec 𝓤 H (𝓖 .A) (𝓜 .mem) (𝓡 .run))) 𝓜 𝓡 code.env #state·soonest-with c-soonest_with-def.routine code.calls-state·soonest-with (c-soonest_with-thm.met 𝓤 H 𝓜 𝓖 𝓡))
     (cited 𝓤 H (tripleOf 𝓤 H (𝓖 .A) c-way_waits.signature (c-way_waits.spec 𝓤 H (𝓖 .A) (𝓜 .mem) (𝓡 .run))) 𝓜 𝓡 code.env #runtime·way-waits c-way_waits-def.routine code.calls-runtime·way-waits (c-way_waits-thm.met 𝓤 H 𝓜 𝓖 𝓡)))

@@ -1,7 +1,7 @@
 use borrow.Author.Tests.{eq-eqb, ne-eqb}
 use Rattle.state.specs.Stores.{soonestWith}
-use Rattle.runtime.proofs.soonest_with.Statement.{statement}
-use Rattle.runtime.proofs.soonest_with.Tie as tie
+use Rattle.state.proofs.soonest_with.Statement.{statement}
+use Rattle.state.proofs.soonest_with.Tie as tie
 
 returns : tie.Need-returns
 unfolding soonestWith

@@ -1,8 +1,8 @@
 use native.Mathlib.Omega.{arith}
 use Rattle.state.specs.Stores.{without}
 use borrow.Author.Needs.{needs}
-use Rattle.runtime.proofs.held_without.Statement.{statement}
-use Rattle.runtime.proofs.held_without.Tie as tie
+use Rattle.state.proofs.held_without.Statement.{statement}
+use Rattle.state.proofs.held_without.Tie as tie
 
 returns : tie.Need-returns
 unfolding without
