@@ -4,3 +4,4 @@ pub mod Logs
 pub mod Theorem
 pub mod Lent
 pub mod Link
+pub mod Unread

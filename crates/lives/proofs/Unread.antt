@@ -1,0 +1,91 @@
+-- What the readings promise where there is nothing to read (01: "until it ends there is no runtime to read"): each says so, and all else in it is blank;
+-- and an axis without a lease, an index past the records or past the receipts shows a blank, whatever stands in its place. Assumes nothing.
+use Prim.Native.Nat.{ℕ}
+use mathlib.Core.Bool.{Bool, true, false, false≢true}
+use mathlib.Core.Option.{none}
+use mathlib.Core.Path.{_≡_, refl, sym, ap, _∙_}
+use Rattle.model.specs.declared.Presence.{Presence}
+use Rattle.model.specs.declared.Presence.the-variants.{Absent, Present}
+use Rattle.model.specs.declared.RuntimeState.the-variants.{Faulted}
+use Rattle.model.specs.Records.{noLease, noCapability}
+use Rattle.receipts.specs.Blank.{blank}
+use Rattle.rules.specs.Protocol.{Reading, ReadState, ReadConfig, ReadSnapshot, ReadLease, ReadCapability, ReadReceipt, Value, OfState, OfNumber, OfConfig, OfSnapshot, OfLease, Output, Started, StartRefused, Hands, Answers, Reminds, Refuses, Shows, NoRuntime, bookIn, shown}
+use Rattle.state.specs.State.{leaseIn}
+use Rattle.decide_read.specs.Shown.{noConfig, noSnapshot, numberSays, stateSays, configSays, snapshotSays, leaseSays, capabilitySays, receiptSays}
+use Rattle.decide_read.specs.declared.CapabilityShown.{CapabilityShown}
+use Rattle.decide_read.specs.declared.ConfigShown.{ConfigShown}
+use Rattle.decide_read.specs.declared.LeaseShown.{LeaseShown}
+use Rattle.decide_read.specs.declared.NumberShown.{NumberShown}
+use Rattle.decide_read.specs.declared.ReceiptShown.{ReceiptShown}
+use Rattle.decide_read.specs.declared.SnapshotShown.{SnapshotShown}
+use Rattle.decide_read.specs.declared.StateShown.{StateShown}
+use Rattle.runtime.specs.declared.Runtime.{Runtime}
+use Rattle.runtime.specs.Stages.{phaseIn, NumberReads, StateReads, ConfigReads, SnapshotReads, LeaseReads, CapabilityReads, ReceiptReads}
+
+isShown : Output → Bool
+isShown Started = false
+isShown (StartRefused n) = false
+isShown (Hands item) = false
+isShown (Answers a) = false
+isShown (Reminds n item) = false
+isShown (Refuses n) = false
+isShown (Shows v) = true
+isShown NoRuntime = false
+
+-- what says that there is no runtime has it absent
+hides : (says : Presence → Output) → isShown (says Present) ≡ true → (p : Presence) → says p ≡ NoRuntime → p ≡ Absent
+unfolding isShown
+hides says e Absent z = refl
+hides says e Present z = absurd (false≢true (sym (ap isShown z) ∙ e))
+
+-- before a start has ended, and after a refused one
+module _ (rt : Runtime) (e : bookIn (phaseIn rt) ≡ none) where
+  nothing : (q : Reading) → shown q (bookIn (phaseIn rt)) ≡ NoRuntime
+  unfolding shown
+  nothing q = ap (shown q) e
+
+  pub number-unread : (q : Reading) (r : NumberShown) → NumberReads q rt r → (r .runtime ≡ Absent) × (r .number ≡ 0)
+  unfolding isShown
+  number-unread q r k =
+      let a = hides (λ p. numberSays (record { runtime = p; number = r .number })) refl (r .runtime) (k .shows ∙ nothing q) in
+      (a, k .blank a)
+
+  pub state-unread : (r : StateShown) → StateReads rt r → (r .runtime ≡ Absent) × (r .state ≡ Faulted)
+  unfolding isShown
+  state-unread r k =
+      let a = hides (λ p. stateSays (record { runtime = p; state = r .state })) refl (r .runtime) (k .shows ∙ nothing ReadState) in
+      (a, k .blank a)
+
+  pub config-unread : (r : ConfigShown) → ConfigReads rt r → (r .runtime ≡ Absent) × (r .config ≡ noConfig)
+  unfolding isShown
+  config-unread r k =
+      let a = hides (λ p. configSays (record { runtime = p; config = r .config })) refl (r .runtime) (k .shows ∙ nothing ReadConfig) in
+      (a, k .blank a)
+
+  pub snapshot-unread : (r : SnapshotShown) → SnapshotReads rt r → (r .runtime ≡ Absent) × (r .snapshot ≡ noSnapshot)
+  unfolding isShown
+  snapshot-unread r k =
+      let a = hides (λ p. snapshotSays (record { runtime = p; snapshot = r .snapshot })) refl (r .runtime) (k .shows ∙ nothing ReadSnapshot) in
+      (a, k .blank a)
+
+  pub lease-unread : (axis : ℕ) (r : LeaseShown) → LeaseReads axis rt r → (r .runtime ≡ Absent) × (r .slot ≡ noLease)
+  unfolding isShown
+  lease-unread axis r k =
+      let a = hides (λ p. leaseSays (record { runtime = p; slot = r .slot })) refl (r .runtime) (k .shows ∙ nothing (ReadLease axis)) in
+      (a, k .unread a)
+
+  pub capability-unread : (index : ℕ) (r : CapabilityShown) → CapabilityReads index rt r → (r .runtime ≡ Absent) × (r .capability ≡ noCapability)
+  unfolding isShown
+  capability-unread index r k =
+      let a = hides (λ p. capabilitySays (record { runtime = p; presence = r .presence; capability = r .capability })) refl (r .runtime) (k .shows ∙ nothing (ReadCapability index)) in
+      (a, k .blank (k .unread a))
+
+  pub receipt-unread : (index : ℕ) (r : ReceiptShown) → ReceiptReads index rt r → (r .runtime ≡ Absent) × (r .receipt ≡ blank)
+  unfolding isShown
+  receipt-unread index r k =
+      let a = hides (λ p. receiptSays (record { runtime = p; presence = r .presence; receipt = r .receipt })) refl (r .runtime) (k .shows ∙ nothing (ReadReceipt index)) in
+      (a, k .blank (k .unread a))
+
+-- 01: "`lease` with axis 8 or more .. return none": nothing of what stood in the slot is shown with it
+pub no-lease-shown : (axis : ℕ) (rt : Runtime) (r : LeaseShown) → LeaseReads axis rt r → leaseIn (r .slot) ≡ none → r .slot ≡ noLease
+no-lease-shown axis rt r k e = k .blank e
