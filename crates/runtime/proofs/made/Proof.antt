@@ -8,36 +8,6 @@ use Rattle.runtime.proofs.Openings.{moves-fresh}
 use Rattle.runtime.proofs.made.Statement.{statement}
 use Rattle.runtime.proofs.made.Tie as tie
 
-refused-start-requires : tie.Need-refused-start-requires
-refused-start-requires c κs = search needs
-
-fixed-of-requires : tie.Need-fixed-of-requires
-fixed-of-requires c κs = search needs
-
-first-trial-requires : tie.Need-first-trial-requires
-first-trial-requires c κs = search needs
-
-blank-requires : tie.Need-blank-requires
-blank-requires c κs = search needs
-
-blank-requires-2 : tie.Need-blank-requires-2
-blank-requires-2 c κs = search needs
-
-blank-requires-3 : tie.Need-blank-requires-3
-blank-requires-3 c κs = search needs
-
-blank-receipt-requires : tie.Need-blank-receipt-requires
-blank-receipt-requires c κs = search needs
-
-numbers-of-requires : tie.Need-numbers-of-requires
-numbers-of-requires c κs = search needs
-
-starting-on-requires : tie.Need-starting-on-requires
-starting-on-requires c κs = search needs
-
-no-places-requires : tie.Need-no-places-requires
-no-places-requires c κs = search needs
-
 returns : tie.Need-returns
 returns c l k =
     let numbered = c .before .before in
@@ -68,14 +38,14 @@ pub made-spec : {M : Type 1} → statement M
 made-spec =
     tie.close
     (tie.spec
-    refused-start-requires
-    fixed-of-requires
-    first-trial-requires
-    blank-requires
-    blank-requires-2
-    blank-requires-3
-    blank-receipt-requires
-    numbers-of-requires
-    starting-on-requires
-    no-places-requires
+    (λ c κs. search needs)
+    (λ c κs. search needs)
+    (λ c κs. search needs)
+    (λ c κs. search needs)
+    (λ c κs. search needs)
+    (λ c κs. search needs)
+    (λ c κs. search needs)
+    (λ c κs. search needs)
+    (λ c κs. search needs)
+    (λ c κs. search needs)
     returns)

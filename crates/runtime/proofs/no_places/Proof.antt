@@ -3,11 +3,8 @@ use Rattle.runtime.proofs.Openings.{empties}
 use Rattle.runtime.proofs.no_places.Statement.{statement}
 use Rattle.runtime.proofs.no_places.Tie as tie
 
-empty-requires : tie.Need-empty-requires
-empty-requires c κs = search needs
-
 returns : tie.Need-returns
 returns c = empties _ (c .empty .ensures) (search needs) (search needs)
 
 pub no-places-spec : {M : Type 1} → statement M
-no-places-spec = tie.close (tie.spec empty-requires returns)
+no-places-spec = tie.close (tie.spec (λ c κs. search needs) returns)
