@@ -26,8 +26,8 @@ use Rattle.runtime.specs.declared.Runtime.{Runtime}
 use Rattle.runtime.specs.Promises.{turnsAway}
 use Rattle.runtime.specs.Runtimes.{stateIn}
 use Rattle.runtime.specs.Stages.{phaseIn, RuntimeSound, Moves, Turns, StateReads, NumberReads, ConfigReads, SnapshotReads, LeaseReads, CapabilityReads, ReceiptReads}
-use Rattle.lives.specs.Runs.{Run, here, then, logIn}
-use Rattle.lives.specs.Lent.{outputIn, LentStep, called, replied, shown, LentLife, outputsOf, lifeOf, LentClaim, Whole}
+use Rattle.lives.specs.Runs.{Run, here, then}
+use Rattle.lives.specs.Lent.{outputIn, LentStep, called, replied, shown, LentLife, outputsOf, lifeOf, lentLog, LentClaim, Whole}
 use Rattle.lives.proofs.Follows.{Meets, follows}
 use Rattle.lives.proofs.Theorem.{same-log, claim-of}
 
@@ -111,8 +111,8 @@ sound-from h (then one more) = sound-from (step h one .fit) more
 pub sound-at-the-end : (c : LentLife) → RuntimeSound (c .last)
 sound-at-the-end c = sound-from (c .promised .sound) (c .run)
 
--- the item that the function `item` shows is the one whose reply the log awaits
-pub item-by-the-log : (c : LentLife) → awaitedIn (phaseIn (c .last)) ≡ awaited (logIn lifeOf outputsOf (λ c. phaseIn (c .last)) c)
+-- the item whose reply is awaited, by the log (Told: the function `item` shows it)
+pub item-by-the-log : (c : LentLife) → awaitedIn (phaseIn (c .last)) ≡ awaited (lentLog c)
 unfolding lifeOf endOf
 item-by-the-log c =
     ap awaitedIn (same-end c ∙ sym (phase-forward (c .start) (c .inputs)))

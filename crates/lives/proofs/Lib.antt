@@ -3,5 +3,6 @@ pub mod Faithful
 pub mod Logs
 pub mod Theorem
 pub mod Lent
+pub mod Told
 pub mod Link
 pub mod Unread

@@ -1,5 +1,5 @@
--- The promises that specs/Lent takes are those of the functions themselves: what each public function of `runtime` asks and ensures, by `refl`. A
--- weaker contract there is refused here. Assumes nothing.
+-- The promises that specs/Lent and specs/Told take are those of the functions themselves: what each public function of `runtime` asks and ensures, by
+-- `refl`. A weaker contract there is refused here. Assumes nothing.
 use Prim.Native.Nat.{ℕ}
 use mathlib.Core.Bool.{Bool}
 use mathlib.Core.List.{List}
@@ -22,11 +22,10 @@ use Rattle.model.specs.declared.Receipt.{Receipt}
 use Rattle.model.specs.declared.Renewal.{Renewal}
 use Rattle.model.specs.declared.Submission.{Submission}
 use Rattle.rules.specs.Interaction.{Leased, Refused, Submitted}
-use Rattle.rules.specs.Protocol.{Calls, Tick, UpdateState, EmergencyStop, PollEstop, RecoverLocal, Acquire, Renew, Cancel, Submit, Replies, Observed as ObservedReply, Executed as ExecutedReply, FellBack as FellBackReply, Recorded as RecordedReply, ReadEpoch, ReadBootId, ReadFlags, ReadReceiptCount, Answers, start as startRule, react, awaitedIn}
+use Rattle.rules.specs.Protocol.{Calls, Tick, UpdateState, EmergencyStop, PollEstop, RecoverLocal, Acquire, Renew, Cancel, Submit, Replies, Observed as ObservedReply, Executed as ExecutedReply, FellBack as FellBackReply, Recorded as RecordedReply, ReadEpoch, ReadBootId, ReadFlags, ReadReceiptCount, Answers, start as startRule, react}
 use Rattle.state.specs.declared.Answer.{Answer}
 use Rattle.state.specs.declared.Answer.the-variants as Answer
 use Rattle.state.specs.State.{outputOf}
-use Rattle.decide_read.specs.Shown.{shownItem}
 use Rattle.decide_read.specs.declared.CapabilityShown.{CapabilityShown}
 use Rattle.decide_read.specs.declared.ConfigShown.{ConfigShown}
 use Rattle.decide_read.specs.declared.ItemShown.{ItemShown}
@@ -70,6 +69,7 @@ use Rattle.runtime.proofs.receipt_count as f-receipt-count
 use Rattle.runtime.proofs.config as f-config
 use Rattle.runtime.proofs.snapshot as f-snapshot
 use Rattle.runtime.proofs.receipt as f-receipt
+use Rattle.lives.specs.Told.{ItemTold}
 
 module _ {M : Type 1} (𝓤 : URA M) (H : Heap 𝓤) (A : Atoms 𝓤) (m : Memory → SProp 𝓤) (run : Routine → Fun 𝓤) (κ : Lft) where
   -- a start ------------------------------------------------------------------------------------------------------------
@@ -164,7 +164,7 @@ module _ {M : Type 1} (𝓤 : URA M) (H : Heap 𝓤) (A : Atoms 𝓤) (m : Memor
 
   -- what a host sees ----------------------------------------------------------------------------------------------------
 
-  pub item-says : (p : RefT Runtime) (r : ItemShown) → f-item.clauses 𝓤 H A m run (κ, tt) (p, tt) .ensures tt r (p, tt) ≡ fact 𝓤 (r ≡ shownItem (awaitedIn (phaseIn (p .now))))
+  pub item-says : (p : RefT Runtime) (r : ItemShown) → f-item.clauses 𝓤 H A m run (κ, tt) (p, tt) .ensures tt r (p, tt) ≡ fact 𝓤 (ItemTold (p .now) r)
   item-says p r = refl
 
   pub item-asks : (p : RefT Runtime) → f-item.clauses 𝓤 H A m run (κ, tt) (p, tt) .requires tt ≡ fact 𝓤 (RuntimeSound (p .now))

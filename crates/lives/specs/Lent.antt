@@ -5,13 +5,13 @@ use mathlib.Core.List.{List, _∷_}
 use mathlib.Core.Path.{_≡_}
 use Rattle.rules.specs.Protocol.{Call, Reply, Reading, Input, Calls, Replies, Reads, Output, Start, start as startRule, react, bookIn, shown as shownRule}
 use Rattle.rules.specs.Lives.{Life}
-use Rattle.rules.specs.Log.{tookEffect}
+use Rattle.rules.specs.Log.{Log, tookEffect}
 use Rattle.state.specs.declared.Answer.{Answer}
 use Rattle.state.specs.State.{outputOf}
 use Rattle.runtime.specs.declared.Runtime.{Runtime}
 use Rattle.runtime.specs.Runtimes.{stateIn}
 use Rattle.runtime.specs.Stages.{phaseIn, RuntimeSound, Moves, Turns}
-use Rattle.lives.specs.Runs.{Run, here, then, ClaimOf}
+use Rattle.lives.specs.Runs.{Run, here, then, logIn, ClaimOf}
 
 -- a step ---------------------------------------------------------------------------------------------------------------
 
@@ -54,6 +54,10 @@ outputsOf c = outputIn (c .answer) (c .first) ∷ c .later
 -- the life in the rules: the same arguments, the same inputs
 unfoldable pub lifeOf : LentLife → Life
 lifeOf c = record { start = c .start; inputs = c .inputs }
+
+-- its log, from its inputs and outputs alone
+abbrev pub lentLog : LentLife → Log
+lentLog c = logIn lifeOf outputsOf (λ c. phaseIn (c .last)) c
 
 -- demand 3 -------------------------------------------------------------------------------------------------------------
 
