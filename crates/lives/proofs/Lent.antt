@@ -7,7 +7,7 @@ use mathlib.Core.Path.{_≡_, refl, sym, ap, ap₂, _∙_}
 use Rattle.rules.specs.Protocol.{Call, Reply, Input, Calls, Replies, Reading, Reads, ReadState, ReadConfig, ReadSnapshot, ReadLease, ReadCapability, ReadReceipt, Output, Start, Phase, Reaction, start as startRule, react, apply, effect, bookIn, shown as shownRule, awaitedIn}
 use Rattle.rules.specs.Lives.{outputsFrom, phaseFrom, outputs, endOf}
 use Rattle.rules.specs.Lists.{Distinct}
-use Rattle.rules.specs.Log.{tookEffect}
+use Rattle.rules.specs.Log.{phaseAfter, tookEffect}
 use Rattle.rules.specs.Turns.{awaited}
 use Rattle.rules.proofs.Forward.{phase-forward}
 use Rattle.rules.proofs.Turns.{stands}
@@ -41,7 +41,7 @@ reads : (p : Phase) (q : Reading) → react p (Reads q) ≡ record { output = sh
 unfolding react apply effect
 reads p q = refl
 
-step : {rt next : Runtime} {i : Input} {out : Output} → RuntimeSound rt → LentStep rt i out next → Meets phaseIn RuntimeSound (react (phaseIn rt) i) out next
+pub step : {rt next : Runtime} {i : Input} {out : Output} → RuntimeSound rt → LentStep rt i out next → Meets phaseIn RuntimeSound (react (phaseIn rt) i) out next
 step h (called answer p) = moves (p h .moves)
 step h (replied answer p) = moves (p h .moves)
 step h (shown {rt = rt} {q = q} e) =
@@ -111,11 +111,15 @@ sound-from h (then one more) = sound-from (step h one .fit) more
 pub sound-at-the-end : (c : LentLife) → RuntimeSound (c .last)
 sound-at-the-end c = sound-from (c .promised .sound) (c .run)
 
+pub end-by-the-history : (c : LentLife) → phaseIn (c .last) ≡ phaseAfter (c .start) (reverse (c .inputs))
+unfolding lifeOf endOf
+end-by-the-history c = same-end c ∙ sym (phase-forward (c .start) (c .inputs))
+
 -- the item whose reply is awaited, by the log (Told: the function `item` shows it)
 pub item-by-the-log : (c : LentLife) → awaitedIn (phaseIn (c .last)) ≡ awaited (lentLog c)
-unfolding lifeOf endOf
+unfolding lifeOf
 item-by-the-log c =
-    ap awaitedIn (same-end c ∙ sym (phase-forward (c .start) (c .inputs)))
+    ap awaitedIn (end-by-the-history c)
     ∙ (sym (stands (c .start) (reverse (c .inputs))) ∙ ap awaited (sym (same-log lifeOf outputsOf (λ c. phaseIn (c .last)) faithful same-end c)))
 
 -- what the functions promise makes a life and its steps: nothing more is asked of them (Link: they do promise it) ----------

@@ -21,11 +21,8 @@ use Rattle.model.specs.declared.Reason.{Reason}
 use Rattle.model.specs.declared.Receipt.{Receipt}
 use Rattle.model.specs.declared.Renewal.{Renewal}
 use Rattle.model.specs.declared.Submission.{Submission}
-use Rattle.rules.specs.Interaction.{Leased, Refused, Submitted}
-use Rattle.rules.specs.Protocol.{Calls, Tick, UpdateState, EmergencyStop, PollEstop, RecoverLocal, Acquire, Renew, Cancel, Submit, Replies, Observed as ObservedReply, Executed as ExecutedReply, FellBack as FellBackReply, Recorded as RecordedReply, ReadEpoch, ReadBootId, ReadFlags, ReadReceiptCount, Answers, start as startRule, react}
+use Rattle.rules.specs.Protocol.{Calls, Tick, UpdateState, EmergencyStop, PollEstop, RecoverLocal, Acquire, Renew, Cancel, Submit, Replies, Observed as ObservedReply, Executed as ExecutedReply, FellBack as FellBackReply, Recorded as RecordedReply, ReadEpoch, ReadBootId, ReadFlags, ReadReceiptCount, start as startRule, react}
 use Rattle.state.specs.declared.Answer.{Answer}
-use Rattle.state.specs.declared.Answer.the-variants as Answer
-use Rattle.state.specs.State.{outputOf}
 use Rattle.decide_read.specs.declared.CapabilityShown.{CapabilityShown}
 use Rattle.decide_read.specs.declared.ConfigShown.{ConfigShown}
 use Rattle.decide_read.specs.declared.ItemShown.{ItemShown}
@@ -39,7 +36,6 @@ use Rattle.decide_reply.specs.declared.Observed.{Observed}
 use Rattle.decide_start.specs.Starts.{startOn}
 use Rattle.runtime.specs.declared.Created.{Created}
 use Rattle.runtime.specs.declared.Runtime.{Runtime}
-use Rattle.runtime.specs.Runtimes.{stateIn}
 use Rattle.runtime.specs.Stages.{phaseIn, RuntimeSound, Moves, Turns, StateReads, NumberReads, ConfigReads, SnapshotReads, LeaseReads, CapabilityReads, ReceiptReads}
 use Rattle.runtime.proofs.new as f-new
 use Rattle.runtime.proofs.tick as f-tick
@@ -69,7 +65,7 @@ use Rattle.runtime.proofs.receipt_count as f-receipt-count
 use Rattle.runtime.proofs.config as f-config
 use Rattle.runtime.proofs.snapshot as f-snapshot
 use Rattle.runtime.proofs.receipt as f-receipt
-use Rattle.lives.specs.Told.{ItemTold}
+use Rattle.lives.specs.Told.{ItemTold, LeaseTold, ReceiptTold, RefusalTold}
 
 module _ {M : Type 1} (𝓤 : URA M) (H : Heap 𝓤) (A : Atoms 𝓤) (m : Memory → SProp 𝓤) (run : Routine → Fun 𝓤) (κ : Lft) where
   -- a start ------------------------------------------------------------------------------------------------------------
@@ -170,19 +166,19 @@ module _ {M : Type 1} (𝓤 : URA M) (H : Heap 𝓤) (A : Atoms 𝓤) (m : Memor
   pub item-asks : (p : RefT Runtime) → f-item.clauses 𝓤 H A m run (κ, tt) (p, tt) .requires tt ≡ fact 𝓤 (RuntimeSound (p .now))
   item-asks p = refl
 
-  pub answered-lease-says : (p : RefT Runtime) (r : Lease) → f-answered-lease.clauses 𝓤 H A m run (κ, tt) (p, tt) .ensures tt r (p, tt) ≡ fact 𝓤 (outputOf Answer.Leased (stateIn (p .now)) ≡ Answers (Leased r))
+  pub answered-lease-says : (p : RefT Runtime) (r : Lease) → f-answered-lease.clauses 𝓤 H A m run (κ, tt) (p, tt) .ensures tt r (p, tt) ≡ fact 𝓤 (LeaseTold (p .now) r)
   answered-lease-says p r = refl
 
   pub answered-lease-asks : (p : RefT Runtime) → f-answered-lease.clauses 𝓤 H A m run (κ, tt) (p, tt) .requires tt ≡ fact 𝓤 (RuntimeSound (p .now))
   answered-lease-asks p = refl
 
-  pub answered-receipt-says : (p : RefT Runtime) (r : Receipt) → f-answered-receipt.clauses 𝓤 H A m run (κ, tt) (p, tt) .ensures tt r (p, tt) ≡ fact 𝓤 (outputOf Answer.Submitted (stateIn (p .now)) ≡ Answers (Submitted r))
+  pub answered-receipt-says : (p : RefT Runtime) (r : Receipt) → f-answered-receipt.clauses 𝓤 H A m run (κ, tt) (p, tt) .ensures tt r (p, tt) ≡ fact 𝓤 (ReceiptTold (p .now) r)
   answered-receipt-says p r = refl
 
   pub answered-receipt-asks : (p : RefT Runtime) → f-answered-receipt.clauses 𝓤 H A m run (κ, tt) (p, tt) .requires tt ≡ fact 𝓤 (RuntimeSound (p .now))
   answered-receipt-asks p = refl
 
-  pub refusal-says : (p : RefT Runtime) (r : Reason) → f-refusal.clauses 𝓤 H A m run (κ, tt) (p, tt) .ensures tt r (p, tt) ≡ fact 𝓤 (outputOf Answer.Refused (stateIn (p .now)) ≡ Answers (Refused r))
+  pub refusal-says : (p : RefT Runtime) (r : Reason) → f-refusal.clauses 𝓤 H A m run (κ, tt) (p, tt) .ensures tt r (p, tt) ≡ fact 𝓤 (RefusalTold (p .now) r)
   refusal-says p r = refl
 
   pub refusal-asks : (p : RefT Runtime) → f-refusal.clauses 𝓤 H A m run (κ, tt) (p, tt) .requires tt ≡ emp 𝓤

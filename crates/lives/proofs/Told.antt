@@ -1,15 +1,19 @@
--- What a host is told over a lent runtime is what the rules say: read by itself, the item that `item` shows is the one whose reply the log awaits.
--- Assumes nothing.
+-- What a host is told over a lent runtime is what the rules say: read by itself, the item that `item` shows is the one whose reply the log awaits; and
+-- an answer, with what the function of it told, is the rules' output. Assumes nothing.
+use mathlib.Core.List.{_∷_, reverse}
 use mathlib.Core.Option.{Option, some, none}
-use mathlib.Core.Path.{_≡_, refl, ap, _∙_}
-use Rattle.rules.specs.Protocol.{Item, ItemObserve, ItemExecute, ItemFallback, ItemRecord}
+use mathlib.Core.Path.{_≡_, refl, sym, ap, _∙_}
+use Rattle.rules.specs.Protocol.{Item, ItemObserve, ItemExecute, ItemFallback, ItemRecord, Input, Output, react}
+use Rattle.rules.specs.Log.{outputAfter}
 use Rattle.rules.specs.Turns.{awaited}
+use Rattle.state.specs.declared.Answer.{Answer}
 use Rattle.decide_read.specs.Shown.{shownItem}
 use Rattle.decide_read.specs.declared.ItemShown.{ItemShown}
+use Rattle.runtime.specs.declared.Runtime.{Runtime}
 use Rattle.runtime.specs.Stages.{RuntimeSound}
-use Rattle.lives.specs.Lent.{LentLife, lentLog}
-use Rattle.lives.specs.Told.{ItemTold, itemSays, RestBlank}
-use Rattle.lives.proofs.Lent.{sound-at-the-end, item-by-the-log}
+use Rattle.lives.specs.Lent.{outputIn, LentStep, LentLife, lentLog}
+use Rattle.lives.specs.Told.{ItemTold, itemSays, RestBlank, Told, lease, receipt, refusal}
+use Rattle.lives.proofs.Lent.{step, end-by-the-history, sound-at-the-end, item-by-the-log}
 
 -- the awaited item -----------------------------------------------------------------------------------------------------
 
@@ -40,3 +44,20 @@ pub item-told : (c : LentLife) (r : ItemShown) → (RuntimeSound (c .last) → I
 item-told c r p =
     let e = p (sound-at-the-end c) in
     (ap itemSays e ∙ (shown-says _ ∙ item-by-the-log c), rw e (rest-blank _))
+
+-- what an answer speaks of ---------------------------------------------------------------------------------------------
+
+told : {rt : Runtime} {answer : Answer} {out : Output} → RuntimeSound rt → Told rt answer out → outputIn answer rt ≡ out
+told h (lease r p) = p h
+told h (receipt r p) = p h
+told h (refusal r p) = p
+
+-- of every life and one step more: what is told of its answer is its own output, and that of the rules
+pub answer-told : (c : LentLife) {next : Runtime} {i : Input} {answer : Answer} {out : Output}
+    → LentStep (c .last) i (outputIn answer next) next → Told next answer out
+    → (outputIn answer next ≡ out) × (outputAfter (c .start) (i ∷ reverse (c .inputs)) ≡ out)
+unfolding outputAfter
+answer-told c {i = i} one t =
+    let m = step (sound-at-the-end c) one in
+    let e = told (m .fit) t in
+    (e, ap (λ p. react p i .output) (sym (end-by-the-history c)) ∙ (sym (m .output) ∙ e))

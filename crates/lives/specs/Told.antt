@@ -4,15 +4,22 @@ use mathlib.Core.Logic.{_≢_}
 use mathlib.Core.Option.{Option, some, none}
 use mathlib.Core.Path.{_≡_}
 use lib.IntN.{pos}
+use Rattle.model.specs.declared.Lease.{Lease}
+use Rattle.model.specs.declared.Reason.{Reason}
 use Rattle.model.specs.declared.Reason.the-variants.{Ok}
+use Rattle.model.specs.declared.Receipt.{Receipt}
 use Rattle.receipts.specs.Blank.{blank}
-use Rattle.rules.specs.Protocol.{Item, ItemObserve, ItemExecute, ItemFallback, ItemRecord, awaitedIn}
+use Rattle.rules.specs.Interaction.{Leased, Refused, Submitted}
+use Rattle.rules.specs.Protocol.{Item, ItemObserve, ItemExecute, ItemFallback, ItemRecord, Output, Answers, awaitedIn}
+use Rattle.state.specs.declared.Answer.{Answer}
+use Rattle.state.specs.declared.Answer.the-variants as Answer
 use Rattle.decide_read.specs.Shown.{shownItem}
 use Rattle.decide_read.specs.declared.ItemKind.{ItemKind}
 use Rattle.decide_read.specs.declared.ItemKind.the-variants as ItemKind
 use Rattle.decide_read.specs.declared.ItemShown.{ItemShown}
 use Rattle.runtime.specs.declared.Runtime.{Runtime}
-use Rattle.runtime.specs.Stages.{phaseIn}
+use Rattle.runtime.specs.Stages.{phaseIn, RuntimeSound}
+use Rattle.lives.specs.Lent.{outputIn}
 
 -- the awaited item -----------------------------------------------------------------------------------------------------
 
@@ -38,3 +45,21 @@ pub record RestBlank (r : ItemShown) : Type 0 where
   pub capability : r .kind ≢ ItemKind.Execute → r .capability ≡ 0
   pub parameters : r .kind ≢ ItemKind.Execute → r .parameters ≡ pos 0 ∷ pos 0 ∷ []
   pub receipt : r .kind ≢ ItemKind.Record → r .receipt ≡ blank
+
+-- what an answer speaks of ---------------------------------------------------------------------------------------------
+
+-- what `answered_lease`, `answered_receipt` and `refusal` promise
+abbrev pub LeaseTold : Runtime → Lease → Type 0
+LeaseTold rt r = outputIn Answer.Leased rt ≡ Answers (Leased r)
+
+abbrev pub ReceiptTold : Runtime → Receipt → Type 0
+ReceiptTold rt r = outputIn Answer.Submitted rt ≡ Answers (Submitted r)
+
+abbrev pub RefusalTold : Runtime → Reason → Type 0
+RefusalTold rt r = outputIn Answer.Refused rt ≡ Answers (Refused r)
+
+-- 01's output, by the answer of a call or a reply and by what the function of that answer then told
+pub data Told (rt : Runtime) : Answer → Output → Type 0 where
+  lease : (r : Lease) → (RuntimeSound rt → LeaseTold rt r) → Told rt Answer.Leased (Answers (Leased r))
+  receipt : (r : Receipt) → (RuntimeSound rt → ReceiptTold rt r) → Told rt Answer.Submitted (Answers (Submitted r))
+  refusal : (r : Reason) → RefusalTold rt r → Told rt Answer.Refused (Answers (Refused r))
