@@ -4,12 +4,15 @@ use Prim.Native.Nat.{ℕ}
 use mathlib.Core.Bool.{Bool, true, false, false≢true}
 use mathlib.Core.Option.{none}
 use mathlib.Core.Path.{_≡_, refl, sym, ap, _∙_}
+use Rattle.model.specs.declared.Capability.{Capability}
+use Rattle.model.specs.declared.LeaseSlot.{LeaseSlot}
 use Rattle.model.specs.declared.Presence.{Presence}
 use Rattle.model.specs.declared.Presence.the-variants.{Absent, Present}
+use Rattle.model.specs.declared.Receipt.{Receipt}
 use Rattle.model.specs.declared.RuntimeState.the-variants.{Faulted}
 use Rattle.model.specs.Records.{noLease, noCapability}
 use Rattle.receipts.specs.Blank.{blank}
-use Rattle.rules.specs.Protocol.{Reading, ReadState, ReadConfig, ReadSnapshot, ReadLease, ReadCapability, ReadReceipt, Value, OfState, OfNumber, OfConfig, OfSnapshot, OfLease, Output, Started, StartRefused, Hands, Answers, Reminds, Refuses, Shows, NoRuntime, bookIn, shown}
+use Rattle.rules.specs.Protocol.{Reading, ReadState, ReadConfig, ReadSnapshot, ReadLease, ReadCapability, ReadReceipt, OfLease, OfCapability, OfReceipt, Output, Started, StartRefused, Hands, Answers, Reminds, Refuses, Shows, NoRuntime, bookIn, shown}
 use Rattle.state.specs.State.{leaseIn}
 use Rattle.decide_read.specs.Shown.{noConfig, noSnapshot, numberSays, stateSays, configSays, snapshotSays, leaseSays, capabilitySays, receiptSays}
 use Rattle.decide_read.specs.declared.CapabilityShown.{CapabilityShown}
@@ -86,6 +89,41 @@ module _ (rt : Runtime) (e : bookIn (phaseIn rt) ≡ none) where
       let a = hides (λ p. receiptSays (record { runtime = p; presence = r .presence; receipt = r .receipt })) refl (r .runtime) (k .shows ∙ nothing (ReadReceipt index)) in
       (a, k .blank (k .unread a))
 
--- 01: "`lease` with axis 8 or more .. return none": nothing of what stood in the slot is shown with it
-pub no-lease-shown : (axis : ℕ) (rt : Runtime) (r : LeaseShown) → LeaseReads axis rt r → leaseIn (r .slot) ≡ none → r .slot ≡ noLease
-no-lease-shown axis rt r k e = k .blank e
+-- what there is not while there is a runtime ----------------------------------------------------------------------------
+
+no-lease : (p : Presence) (s : LeaseSlot) → leaseSays (record { runtime = p; slot = s }) ≡ Shows (OfLease none) → (p ≡ Present) × (leaseIn s ≡ none)
+no-lease Absent s e = (cc, cc)
+no-lease Present s e = (refl, cc)
+
+no-capability : (p q : Presence) (c : Capability) → capabilitySays (record { runtime = p; presence = q; capability = c }) ≡ Shows (OfCapability none)
+    → (p ≡ Present) × (q ≡ Absent)
+no-capability Absent q c e = (cc, cc)
+no-capability Present Absent c e = (refl, refl)
+no-capability Present Present c e = (refl, cc)
+
+no-receipt : (p q : Presence) (x : Receipt) → receiptSays (record { runtime = p; presence = q; receipt = x }) ≡ Shows (OfReceipt none)
+    → (p ≡ Present) × (q ≡ Absent)
+no-receipt Absent q x e = (cc, cc)
+no-receipt Present Absent x e = (refl, refl)
+no-receipt Present Present x e = (refl, cc)
+
+-- 01: "`lease` with axis 8 or more and `receipt` with an index at or past the count return none", and so does `capabilities`: nothing of what stands in
+-- the place is shown with it
+module _ (rt : Runtime) where
+  pub no-lease-shown : (axis : ℕ) (r : LeaseShown) → LeaseReads axis rt r → shown (ReadLease axis) (bookIn (phaseIn rt)) ≡ Shows (OfLease none)
+      → (r .runtime ≡ Present) × (r .slot ≡ noLease)
+  no-lease-shown axis r k e = let n = no-lease (r .runtime) (r .slot) (k .shows ∙ e) in (n .0, k .blank (n .1))
+
+  pub no-capability-shown : (index : ℕ) (r : CapabilityShown) → CapabilityReads index rt r
+      → shown (ReadCapability index) (bookIn (phaseIn rt)) ≡ Shows (OfCapability none)
+      → (r .runtime ≡ Present) × ((r .presence ≡ Absent) × (r .capability ≡ noCapability))
+  no-capability-shown index r k e =
+      let n = no-capability (r .runtime) (r .presence) (r .capability) (k .shows ∙ e) in
+      (n .0, (n .1, k .blank (n .1)))
+
+  pub no-receipt-shown : (index : ℕ) (r : ReceiptShown) → ReceiptReads index rt r
+      → shown (ReadReceipt index) (bookIn (phaseIn rt)) ≡ Shows (OfReceipt none)
+      → (r .runtime ≡ Present) × ((r .presence ≡ Absent) × (r .receipt ≡ blank))
+  no-receipt-shown index r k e =
+      let n = no-receipt (r .runtime) (r .presence) (r .receipt) (k .shows ∙ e) in
+      (n .0, (n .1, k .blank (n .1)))
