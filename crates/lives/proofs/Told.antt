@@ -3,16 +3,18 @@
 use mathlib.Core.List.{_∷_, reverse}
 use mathlib.Core.Option.{Option, some, none}
 use mathlib.Core.Path.{_≡_, refl, sym, ap, _∙_}
-use Rattle.rules.specs.Protocol.{Item, ItemObserve, ItemExecute, ItemFallback, ItemRecord, Input, Output, react}
-use Rattle.rules.specs.Log.{outputAfter}
+use Rattle.rules.specs.Protocol.{Item, ItemObserve, ItemExecute, ItemFallback, ItemRecord, Input, Output, Hands, Start, Reaction, react, awaitedIn}
+use Rattle.rules.specs.Log.{History, phaseAfter, outputAfter, handed, logged, logOf}
 use Rattle.rules.specs.Turns.{awaited}
+use Rattle.rules.proofs.Turns.{stands}
 use Rattle.state.specs.declared.Answer.{Answer}
+use Rattle.state.specs.State.{outputOf}
 use Rattle.decide_read.specs.Shown.{shownItem}
 use Rattle.decide_read.specs.declared.ItemShown.{ItemShown}
 use Rattle.runtime.specs.declared.Runtime.{Runtime}
-use Rattle.runtime.specs.Stages.{RuntimeSound}
+use Rattle.runtime.specs.Stages.{phaseIn, RuntimeSound}
 use Rattle.lives.specs.Lent.{outputIn, LentStep, LentLife, lentLog}
-use Rattle.lives.specs.Told.{ItemTold, itemSays, RestBlank, Told, lease, receipt, refusal}
+use Rattle.lives.specs.Told.{ItemTold, itemSays, RestBlank, Told, item, lease, receipt, refusal}
 use Rattle.lives.proofs.Lent.{step, end-by-the-history, sound-at-the-end, item-by-the-log}
 
 -- the awaited item -----------------------------------------------------------------------------------------------------
@@ -47,17 +49,28 @@ item-told c r p =
 
 -- what an answer speaks of ---------------------------------------------------------------------------------------------
 
-told : {rt : Runtime} {answer : Answer} {out : Output} → RuntimeSound rt → Told rt answer out → outputIn answer rt ≡ out
-told h (lease r p) = p h
-told h (receipt r p) = p h
-told h (refusal r p) = p
+-- what is handed out is awaited from then on
+awaited-now : (s : Start) (h : History) (i : Input) (x : Item) → outputAfter s (i ∷ h) ≡ Hands x → awaitedIn (phaseAfter s (i ∷ h)) ≡ some x
+unfolding outputAfter logOf logged handed awaited
+awaited-now s h i x e = sym (stands s (i ∷ h)) ∙ ap (λ out. awaited (logged i out (logOf s h))) e
+
+told : {rt : Runtime} {answer : Answer} {out : Output} → RuntimeSound rt
+    → ((x : Item) → outputIn answer rt ≡ Hands x → awaitedIn (phaseIn rt) ≡ some x) → Told rt answer out → outputIn answer rt ≡ out
+unfolding outputOf
+told h now (item r x p e) = cc (ap itemSays (p h) ∙ shown-says _, now _ refl)
+told h now (lease r p) = p h
+told h now (receipt r p) = p h
+told h now (refusal r p) = p
 
 -- of every life and one step more: what is told of its answer is its own output, and that of the rules
 pub answer-told : (c : LentLife) {next : Runtime} {i : Input} {answer : Answer} {out : Output}
     → LentStep (c .last) i (outputIn answer next) next → Told next answer out
     → (outputIn answer next ≡ out) × (outputAfter (c .start) (i ∷ reverse (c .inputs)) ≡ out)
-unfolding outputAfter
+unfolding outputAfter phaseAfter
 answer-told c {i = i} one t =
     let m = step (sound-at-the-end c) one in
-    let e = told (m .fit) t in
-    (e, ap (λ p. react p i .output) (sym (end-by-the-history c)) ∙ (sym (m .output) ∙ e))
+    let x = ap (λ p. react p i) (end-by-the-history c) in
+    let out = m .output ∙ ap (λ (x : Reaction). x .output) x in
+    let end = m .phase ∙ ap (λ (x : Reaction). x .phase) x in
+    let e = told (m .fit) (λ x hands. ap awaitedIn end ∙ awaited-now (c .start) (reverse (c .inputs)) i x (sym out ∙ hands)) t in
+    (e, sym out ∙ e)

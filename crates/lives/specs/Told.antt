@@ -10,7 +10,7 @@ use Rattle.model.specs.declared.Reason.the-variants.{Ok}
 use Rattle.model.specs.declared.Receipt.{Receipt}
 use Rattle.receipts.specs.Blank.{blank}
 use Rattle.rules.specs.Interaction.{Leased, Refused, Submitted}
-use Rattle.rules.specs.Protocol.{Item, ItemObserve, ItemExecute, ItemFallback, ItemRecord, Output, Answers, awaitedIn}
+use Rattle.rules.specs.Protocol.{Item, ItemObserve, ItemExecute, ItemFallback, ItemRecord, Output, Hands, Answers, awaitedIn}
 use Rattle.state.specs.declared.Answer.{Answer}
 use Rattle.state.specs.declared.Answer.the-variants as Answer
 use Rattle.decide_read.specs.Shown.{shownItem}
@@ -60,6 +60,7 @@ RefusalTold rt r = outputIn Answer.Refused rt ≡ Answers (Refused r)
 
 -- 01's output, by the answer of a call or a reply and by what the function of that answer then told
 pub data Told (rt : Runtime) : Answer → Output → Type 0 where
+  item : (r : ItemShown) (x : Item) → (RuntimeSound rt → ItemTold rt r) → itemSays r ≡ some x → Told rt Answer.Item (Hands x)
   lease : (r : Lease) → (RuntimeSound rt → LeaseTold rt r) → Told rt Answer.Leased (Answers (Leased r))
   receipt : (r : Receipt) → (RuntimeSound rt → ReceiptTold rt r) → Told rt Answer.Submitted (Answers (Submitted r))
   refusal : (r : Reason) → RefusalTold rt r → Told rt Answer.Refused (Answers (Refused r))
