@@ -25,15 +25,9 @@ on-time c =
     let a = c .before .before .before .before .before .before .before .args in
     le-leb (a .numbers .«last_tick») (a .now) (omega arith)
 
-is-estopped-requires : tie.Need-is-estopped-requires
-is-estopped-requires c κs = search needs
-
 returns : tie.Need-returns
 unfolding firstFailing ready bookOf
 returns c = λ t. simp (sym (c .before .is-estopped .ensures) ∙ c .if1 .taken)
-
-is-faulted-requires : tie.Need-is-faulted-requires
-is-faulted-requires c κs = search needs
 
 returns-2 : tie.Need-returns-2
 unfolding firstFailing ready bookOf
@@ -45,9 +39,6 @@ returns-3 c = λ t.
     let f = c .before .before in
     let a = f .before .before .before .before .before .args in
     simp (not-estopped (f .before .before), not-faulted f, lt-leb (a .numbers .«last_tick») (a .now) (omega arith))
-
-is-stale-requires : tie.Need-is-stale-requires
-is-stale-requires c κs = search needs
 
 returns-4 : tie.Need-returns-4
 unfolding firstFailing ready bookOf
@@ -67,11 +58,11 @@ pub ready-spec : {M : Type 1} → statement M
 ready-spec =
     tie.close
     (tie.spec
-    is-estopped-requires
+    (λ c κs. search needs)
     returns
-    is-faulted-requires
+    (λ c κs. search needs)
     returns-2
     returns-3
-    is-stale-requires
+    (λ c κs. search needs)
     returns-4
     returns-5)

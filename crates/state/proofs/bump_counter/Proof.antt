@@ -4,9 +4,6 @@ use borrow.Author.Needs.{needs}
 use Rattle.state.proofs.bump_counter.Statement.{statement}
 use Rattle.state.proofs.bump_counter.Tie as tie
 
-add-result : tie.Need-add-result
-add-result c = search needs
-
 returns : tie.Need-returns
 unfolding bumpTo
 returns c = simp (lt-ltb _ _ (c .if1 .taken))
@@ -16,4 +13,4 @@ unfolding bumpTo
 returns-2 c = simp (le-ltb _ _ (c .if1 .left))
 
 pub bump-counter-spec : {M : Type 1} → statement M
-bump-counter-spec = tie.close (tie.spec add-result returns returns-2)
+bump-counter-spec = tie.close (tie.spec (λ c. search needs) returns returns-2)

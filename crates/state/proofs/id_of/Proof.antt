@@ -3,12 +3,6 @@ use borrow.Author.Needs.{needs}
 use Rattle.state.proofs.id_of.Statement.{statement}
 use Rattle.state.proofs.id_of.Tie as tie
 
-enum-told : tie.Need-enum-told
-enum-told c = search needs
-
-enum-told-2 : tie.Need-enum-told-2
-enum-told-2 c = search needs
-
 returns : tie.Need-returns
 unfolding leaseId
 returns c = simp (c .enum-told .given .1)
@@ -18,4 +12,4 @@ unfolding leaseId
 returns-2 c = simp (c .enum-told2 .given .1)
 
 pub id-of-spec : {M : Type 1} → statement M
-id-of-spec = tie.close (tie.spec enum-told enum-told-2 returns returns-2)
+id-of-spec = tie.close (tie.spec (λ c. search needs) (λ c. search needs) returns returns-2)

@@ -4,11 +4,8 @@ use borrow.Author.Needs.{needs}
 use Rattle.state.proofs.is_estop.Statement.{statement}
 use Rattle.state.proofs.is_estop.Tie as tie
 
-number-requires : tie.Need-number-requires
-number-requires c κs = search needs
-
 returns : tie.Need-returns
 returns c = ap (λ n. eqb n 11) (c .number .ensures)
 
 pub is-estop-spec : {M : Type 1} → statement M
-is-estop-spec = tie.close (tie.spec number-requires returns)
+is-estop-spec = tie.close (tie.spec (λ c κs. search needs) returns)

@@ -16,9 +16,6 @@ none-left (suc n) = ne-eqb (suc n) 0 (λ e. absurd (omega arith)) ∙ sym (lt-le
 before-stamp : (ttl now stamp : ℕ) → now < stamp → eqb ttl 0 ≡ leb ttl (now - stamp)
 before-stamp ttl now stamp h = let z : now - stamp ≡ 0 = omega arith in rw z (none-left ttl)
 
-cast-ttl : tie.Need-cast-ttl
-cast-ttl c = search needs
-
 returns : tie.Need-returns
 unfolding isStale bookOf
 returns c = λ t. before-stamp _ _ _ (c .if1 .taken)
@@ -28,4 +25,4 @@ unfolding isStale bookOf
 returns-2 c = λ t. refl
 
 pub is-stale-spec : {M : Type 1} → statement M
-is-stale-spec = tie.close (tie.spec cast-ttl returns returns-2)
+is-stale-spec = tie.close (tie.spec (λ c. search needs) returns returns-2)

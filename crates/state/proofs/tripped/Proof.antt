@@ -5,24 +5,9 @@ use borrow.Author.Needs.{needs}
 use Rattle.state.proofs.tripped.Statement.{statement}
 use Rattle.state.proofs.tripped.Tie as tie
 
-is-estop-requires : tie.Need-is-estop-requires
-is-estop-requires c κs = search needs
-
 returns : tie.Need-returns
 unfolding tripped
 returns c = simp (sym (c .before .is-estop .ensures) ∙ c .if1 .taken)
-
-enum-told : tie.Need-enum-told
-enum-told c = search needs
-
-enum-told-2 : tie.Need-enum-told-2
-enum-told-2 c = search needs
-
-enum-told-3 : tie.Need-enum-told-3
-enum-told-3 c = search needs
-
-enum-told-4 : tie.Need-enum-told-4
-enum-told-4 c = search needs
 
 returns-2 : tie.Need-returns-2
 unfolding tripped isEstopped
@@ -44,12 +29,12 @@ pub tripped-spec : {M : Type 1} → statement M
 tripped-spec =
     tie.close
     (tie.spec
-    is-estop-requires
+    (λ c κs. search needs)
     returns
-    enum-told
-    enum-told-2
-    enum-told-3
-    enum-told-4
+    (λ c. search needs)
+    (λ c. search needs)
+    (λ c. search needs)
+    (λ c. search needs)
     returns-2
     returns-3
     returns-4
