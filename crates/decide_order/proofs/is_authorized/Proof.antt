@@ -15,10 +15,14 @@ unfolding authorizes
 returns-2 c = λ h. rw (eq-eqb _ _ (c .before .before .before .if1 .left), ne-eqb _ _ (c .if2 .taken))
 
 cast-result : tie.Need-cast-result
-cast-result c = record { fits = omega (arith, below (c .before .before .before .before .before .before .before .before .args .submission .action .capability)) }
+cast-result c =
+    let tested = c .before .before .before .before in
+    record { fits = omega (arith, below (tested .before .before .before .before .args .submission .action .capability)) }
 
 shl-result : tie.Need-shl-result
-shl-result c = below (c .before .before .before .before .before .before .before .before .args .submission .action .capability)
+shl-result c =
+    let tested = c .before .before .before .before in
+    below (tested .before .before .before .before .args .submission .action .capability)
 
 returns-3 : tie.Need-returns-3
 unfolding authorizes hasBit shareNoBit

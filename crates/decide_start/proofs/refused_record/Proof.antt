@@ -18,22 +18,25 @@ abbrev μ-loop : tie.MeasureT-loop
 
 returns : tie.Need-returns Inv-loop μ-loop
 returns c =
-    let a = c .before .before .before .before .before .before .before .args in
-    let l = c .before .before .before .before .before .before .loop in
+    let turn = c .before .before .before .before .before .before in
+    let a = turn .before .args in
+    let l = turn .loop in
     let n : length (a .t1) ≡ 17 = search needs in
     sym (l .inv ∙ record-unsound (a .t1) (a .count) (l .i) _ (search needs) (search needs) (sym (c .before .before .is-sound .ensures) ∙ not-true _ (c .if2 .taken)))
 
 returns-2 : tie.Need-returns-2 Inv-loop μ-loop
 returns-2 c =
-    let a = c .before .before .before .before .before .before .before .before .args in
-    let l = c .before .before .before .before .before .before .before .loop in
+    let turn = c .before .before .before .before .before .before .before in
+    let a = turn .before .args in
+    let l = turn .loop in
     let n : length (a .t1) ≡ 17 = search needs in
     sym (l .inv ∙ record-taken (a .t1) (a .count) (l .i) _ (search needs) (search needs) (sym (c .before .before .before .is-sound .ensures) ∙ not-false _ (c .before .if2 .left)) (sym (c .before .before .id-taken .ensures) ∙ c .if3 .taken))
 
 loop-again : tie.Need-loop-again Inv-loop μ-loop
 loop-again c =
-    let a = c .before .before .before .before .before .before .before .before .args in
-    let l = c .before .before .before .before .before .before .before .loop in
+    let turn = c .before .before .before .before .before .before .before in
+    let a = turn .before .args in
+    let l = turn .loop in
     let n : length (a .t1) ≡ 17 = search needs in
     l .inv ∙ record-passes (a .t1) (a .count) (l .i) _ (search needs) (search needs) (sym (c .before .before .before .is-sound .ensures) ∙ not-false _ (c .before .if2 .left)) (sym (c .before .before .id-taken .ensures) ∙ c .if3 .left)
 

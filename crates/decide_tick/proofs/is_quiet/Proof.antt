@@ -8,7 +8,8 @@ use Rattle.decide_tick.proofs.is_quiet.Tie as tie
 
 returns-5 : tie.Need-returns-5
 returns-5 c =
-    let k = c .before .before .before .before .before .before .before .before in
+    let armed = c .before .before .before in
+    let k = armed .before .before .before .before .before in
     let a = k .before .before .before .before .before .before .args in
     λ e.
     quiet-so (a .fixed) (a .numbers) (a .now) (k .before .before .before .before .if1 .left) (k .before .before .if2 .left)

@@ -26,11 +26,12 @@ returns-2 c =
 
 returns-3 : tie.Need-returns-3
 returns-3 c =
-    let k = c .before .before .before .before .before .before .before .before in
+    let late = c .before .before .before in
+    let k = late .before .before .before .before .before in
     let a = k .before .before .before .before .args in
     λ inside t q h s d.
     late-so (a .fixed) (a .numbers) (a .time) (k .before .before .if1 .left)
-    (λ t′. sym (k .before .is-exhausted .ensures (a .fixed) t′) ∙ k .if2 .left) (c .before .before .before .if3 .taken)
+    (λ t′. sym (k .before .is-exhausted .ensures (a .fixed) t′) ∙ k .if2 .left) (late .if3 .taken)
     (sym (c .before .before .is-armed .ensures) ∙ c .before .if4 .taken) (c .trips3 .ensures .1 (search needs)) t q h s
 
 -- within the watchdog's limit, or not Armed
