@@ -27,7 +27,7 @@ use Rattle.lives.specs.Lent.{outputIn}
 abbrev pub ItemTold : Runtime → ItemShown → Type 0
 ItemTold rt r = r ≡ shownItem (awaitedIn (phaseIn rt))
 
-abbrev saidBy : ItemKind → ItemShown → Option Item
+abbrev pub saidBy : ItemKind → ItemShown → Option Item
 saidBy ItemKind.Nothing r = none
 saidBy ItemKind.Observe r = some (ItemObserve (r .axis))
 saidBy ItemKind.Execute r = some (ItemExecute (r .capability) (r .parameters))
