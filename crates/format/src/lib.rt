@@ -260,7 +260,7 @@ pub fn as_u32(word: u64) -> u32
     (word % 4294967296) as u32
 }
 
-fn as_u16(word: u64) -> u16
+pub fn as_u16(word: u64) -> u16
     ensures { λ r. ⌜ r ≡ word % 65536 ⌝ }
 {
     (word % 65536) as u16
@@ -279,7 +279,7 @@ pub fn as_bool(word: u64) -> bool
 }
 
 // 32 bits, in two's complement.
-fn signed(bits: u32) -> i32
+pub fn signed(bits: u32) -> i32
     ensures { λ r. ⌜ r ≡ signedOf bits ⌝ }
 {
     if bits < 2147483648 {
@@ -307,7 +307,7 @@ pub fn bit(value: bool) -> u64
     if value { 1 } else { 0 }
 }
 
-fn unsigned(value: i32) -> u64
+pub fn unsigned(value: i32) -> u64
     ensures { λ r. ⌜ r ≡ unsignedOf value ⌝ }
 {
     if value >= 0 {
@@ -341,7 +341,7 @@ fn verification_of(state: bool, mask: u32, value: u32) -> Verification
     Verification::Parameters
 }
 
-fn bounds_of(min: u64, max: u64) -> Bounds
+pub fn bounds_of(min: u64, max: u64) -> Bounds
     ensures { λ r. ⌜ r ≡ boundsOf min max ⌝ }
 {
     Bounds {
@@ -449,7 +449,7 @@ pub fn observation_of(words: [u64; 16]) -> Observation
 
 // Output records -------------------------------------------------------------------------------------------------------
 
-fn class_number(class: ExecutionClass) -> u64
+pub fn class_number(class: ExecutionClass) -> u64
     ensures { λ r. ⌜ r ≡ classNumber class ⌝ }
 {
     match class {
@@ -459,7 +459,7 @@ fn class_number(class: ExecutionClass) -> u64
     }
 }
 
-fn decision_number(decision: Decision) -> u64
+pub fn decision_number(decision: Decision) -> u64
     ensures { λ r. ⌜ r ≡ decisionNumber decision ⌝ }
 {
     match decision {
@@ -488,7 +488,7 @@ pub fn reason_number(reason: Reason) -> u64
     reason.number() as u64
 }
 
-fn verification_word(verification: Verification) -> u64
+pub fn verification_word(verification: Verification) -> u64
     ensures { λ r. ⌜ r ≡ verificationWord verification ⌝ }
 {
     match verification {
@@ -497,7 +497,7 @@ fn verification_word(verification: Verification) -> u64
     }
 }
 
-fn mask_word(verification: Verification) -> u64
+pub fn mask_word(verification: Verification) -> u64
     ensures { λ r. ⌜ r ≡ maskWord verification ⌝ }
 {
     match verification {
@@ -506,7 +506,7 @@ fn mask_word(verification: Verification) -> u64
     }
 }
 
-fn value_word(verification: Verification) -> u64
+pub fn value_word(verification: Verification) -> u64
     ensures { λ r. ⌜ r ≡ valueWord verification ⌝ }
 {
     match verification {

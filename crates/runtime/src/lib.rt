@@ -280,7 +280,7 @@ fn look_allowed(rt: &Runtime, axis: u8) -> u64
 }
 
 // The place that stands so many before the newest of the replay ring.
-fn place_before(cursor: usize, i: usize) -> usize
+pub fn place_before(cursor: usize, i: usize) -> usize
     requires { ⌜ (cursor < 32) × (i < 32) ⌝ }
     ensures { λ r. ⌜ (r ≡ (cursor + 31 - i) % 32) × (r < 32) ⌝ }
 {
@@ -301,12 +301,12 @@ fn look_replay(rt: &Runtime, owner: u64, action_id: u64) -> usize
 }
 
 // Whether there is such an entry, and its receipt.
-struct Hit {
-    found: bool,
-    receipt: u64,
+pub struct Hit {
+    pub found: bool,
+    pub receipt: u64,
 }
 
-fn hit_at(at: usize, receipt: u64) -> Hit
+pub fn hit_at(at: usize, receipt: u64) -> Hit
     ensures { λ r. ⌜ r ≡ hitOf at receipt ⌝ }
 {
     if at < 32 {
@@ -338,11 +338,11 @@ fn look_hit(rt: &Runtime, wanted: bool, owner: u64, action_id: u64) -> Hit
 // store ------------------------------------------------------------------------------------------------------------------
 
 // Where one more receipt goes: its slot, and the place of its circle; the spare place of the other one.
-struct Placement {
-    index: Index,
-    slot: usize,
-    rejected_at: usize,
-    others_at: usize,
+pub struct Placement {
+    pub index: Index,
+    pub slot: usize,
+    pub rejected_at: usize,
+    pub others_at: usize,
 }
 
 fn placed(index: Index, oldest_rejected: u8, oldest_other: u8, rejection: bool) -> Placement
@@ -368,7 +368,7 @@ fn placed(index: Index, oldest_rejected: u8, oldest_other: u8, rejection: bool) 
     }
 }
 
-fn recording(after: AfterRecord) -> Waiting
+pub fn recording(after: AfterRecord) -> Waiting
     ensures { λ r. ⌜ r ≡ record { awaited = Record; «after_record» = after } ⌝ }
 {
     Waiting {
@@ -396,7 +396,7 @@ fn place(rt: &mut Runtime, rejection: bool, after: AfterRecord) -> usize
     change.slot
 }
 
-fn way_waits(way: Way) -> Waiting
+pub fn way_waits(way: Way) -> Waiting
     ensures { λ r. ⌜ r ≡ waitsBy way ⌝ }
 {
     match way {
@@ -410,7 +410,7 @@ fn way_waits(way: Way) -> Waiting
 }
 
 // The axis that a course clears; the spare one where it clears none.
-fn cleared(way: Way, axis: u8) -> usize
+pub fn cleared(way: Way, axis: u8) -> usize
     ensures { λ r. ⌜ r ≡ clears way axis ⌝ }
 {
     match way {
@@ -453,7 +453,7 @@ fn follow(rt: &mut Runtime, course: Course) -> Answer
     course.answer
 }
 
-fn awaiting(awaited: Awaited) -> Waiting
+pub fn awaiting(awaited: Awaited) -> Waiting
     ensures { λ r. ⌜ r ≡ awaitingFor awaited ⌝ }
 {
     Waiting {
@@ -474,7 +474,7 @@ fn refuse(rt: &mut Runtime, reason: Reason) -> Answer
 
 // tick -------------------------------------------------------------------------------------------------------------------
 
-fn is_begun(begun: Begun) -> bool
+pub fn is_begun(begun: Begun) -> bool
     ensures { λ r. ⌜ r ≡ isQuiet begun ⌝ }
 {
     match begun {
@@ -507,7 +507,7 @@ fn tighten(rt: &mut Runtime)
     rt.numbers.soonest = soonest;
 }
 
-fn is_going_on(way: Way) -> bool
+pub fn is_going_on(way: Way) -> bool
     ensures { λ r. ⌜ r ≡ goesOn way ⌝ }
 {
     match way {
@@ -640,7 +640,7 @@ fn recover_on(rt: &mut Runtime, time: u64) -> Answer
 // leases -----------------------------------------------------------------------------------------------------------------
 
 // The axis, or the spare one.
-fn axis_or_spare(axis: u8) -> usize
+pub fn axis_or_spare(axis: u8) -> usize
     ensures { λ r. ⌜ (r ≡ spareOr axis) × (r < 9) ⌝ }
 {
     if axis < 8 { axis as usize } else { 8 }
@@ -734,7 +734,7 @@ fn cancel_on(rt: &mut Runtime, owner: u64, lease_id: u64, time: u64) -> Answer
 
 // orders -----------------------------------------------------------------------------------------------------------------
 
-fn entered(entry: Replay) -> ReplaySlot
+pub fn entered(entry: Replay) -> ReplaySlot
     ensures { λ r. ⌜ r ≡ held entry ⌝ }
 {
     ReplaySlot {
@@ -743,7 +743,7 @@ fn entered(entry: Replay) -> ReplaySlot
     }
 }
 
-fn next_place(cursor: usize) -> usize
+pub fn next_place(cursor: usize) -> usize
     requires { ⌜ cursor < 32 ⌝ }
     ensures { λ r. ⌜ r ≡ (cursor + 1) % 32 ⌝ }
 {
@@ -1056,7 +1056,7 @@ const NO_CARRYING: Carrying = Carrying {
 };
 
 // The startup fallback on an axis.
-fn starting_on(axis: u8) -> Falling
+pub fn starting_on(axis: u8) -> Falling
     ensures { λ r. ⌜ r ≡ startingOn axis ⌝ }
 {
     Falling {
@@ -1168,7 +1168,7 @@ fn try_next(rt: &mut Runtime, ok: bool) -> Answer
 
 // calls ------------------------------------------------------------------------------------------------------------------
 
-fn asking(kind: CallKind, flags: u32, time: u64, owner: u64, lease_id: u64) -> Pending
+pub fn asking(kind: CallKind, flags: u32, time: u64, owner: u64, lease_id: u64) -> Pending
     ensures { λ r. ⌜ r ≡ record { kind = kind; flags = flags; now = time; owner = owner; «lease_id» = «lease_id» } ⌝ }
 {
     Pending {

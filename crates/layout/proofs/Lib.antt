@@ -1,0 +1,3 @@
+pub mod Becomes
+pub mod Fields
+pub mod Stored

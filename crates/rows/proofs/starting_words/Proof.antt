@@ -1,0 +1,22 @@
+use Rattle.rows.specs.Rows.{startingOf, startingWords}
+use Rattle.rows.proofs.Codes.{stage-back, bit-back}
+use borrow.Author.Needs.{needs}
+use Rattle.rows.proofs.starting_words.Statement.{statement}
+use Rattle.rows.proofs.starting_words.Tie as tie
+
+stage-word-requires : tie.Need-stage-word-requires
+stage-word-requires c κs = search needs
+
+bit-requires : tie.Need-bit-requires
+bit-requires c κs = search needs
+
+returns : tie.Need-returns
+unfolding startingOf startingWords
+returns c =
+    record {
+      row = rw (c .bit .ensures, c .before .stage-word .ensures);
+      back = rw (stage-back _, bit-back _);
+    }
+
+pub starting-words-spec : {M : Type 1} → statement M
+starting-words-spec = tie.close (tie.spec stage-word-requires bit-requires returns)
