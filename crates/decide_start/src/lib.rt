@@ -97,7 +97,7 @@ impl Listed {
 // the checks -------------------------------------------------------------------------------------------------------------
 
 // The list is empty or above 16, or one of the six fields is 0.
-fn is_bad(config: Config, count: usize) -> bool
+pub fn is_bad(config: Config, count: usize) -> bool
     ensures { λ r. ⌜ r ≡ badConfig config count ⌝ }
 {
     if count == 0 {

@@ -84,6 +84,11 @@ module _ (w ws : List ℕ) where
   unfolding runtimeIn receiptOf part
   submitted-read e f = f ∙ ap receiptOf e
 
+-- a window on a capability's row
+pub capability-window : (w : List ℕ) (b : ℕ) → capabilityOf (part w b 16) ≡ capabilityOf (part w b 14)
+unfolding capabilityOf part
+capability-window w b = refl
+
 -- elements of tables -----------------------------------------------------------------------------------------------------
 
 module _ (w ws : List ℕ) (i : ℕ) where

@@ -1,3 +1,4 @@
 pub mod Becomes
 pub mod Fields
+pub mod Listing
 pub mod Stored

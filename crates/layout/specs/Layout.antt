@@ -5,7 +5,7 @@
 --      3 the numbers                             38 what a start sets         432 capabilities, 17 of 14     834 the receipt kept for an answer
 --     14 cursor, slot, axis, reason              54 the receipts' index       670 replay entries, 33 of 4    855 receipts, 65 rows of 21
 --     18 the fallback in hand                    59 places of rejections, 65  802 the order in hand         2220 how many are listed for a start
---     25 the lease that it took                 124 places of the others, 65                                2221 those listed, 16 rows of 14
+--     25 the lease that it took                 124 places of the others, 65                                2221 those listed, 17 rows of 14
 --     28 the order in the driver's hands
 use Prim.Native.Nat.{ℕ, _%_, _≤_}
 use mathlib.Core.List.{List, map}
@@ -15,13 +15,14 @@ use Rattle.cells.specs.Cells.{part, table}
 use Rattle.format.specs.Decode.{word, capabilityOf, requestOf, renewalOf, submissionOf}
 use Rattle.rows.specs.Codes.{below, reasonOf}
 use Rattle.rows.specs.Rows.{waitingOf, fallingOf, revokedOf, carryingOf, pendingOf, startingOf, numbersOf, fixedOf, leaseSlotOf, activeSlotOf, replaySlotOf, receiptOf, indexOf}
+use Rattle.decide_start.specs.declared.Listed.{Listed}
 use Rattle.runtime.specs.declared.Places.{Places}
 use Rattle.runtime.specs.declared.Runtime.{Runtime}
 use Rattle.layout.specs.Fields.{built}
 
 -- how many words a host lends, and the first of them
 abbrev pub size : ℕ
-size = 2448
+size = 2464
 
 -- "ROLTHAI", version 1
 abbrev pub magic : ℕ
@@ -51,12 +52,24 @@ runtimeIn w =
 abbrev pub Long : List ℕ → Type 0
 Long w = size ≤ length w
 
--- as many words as before, and the same first one
+-- what is listed for the next start
+unfoldable pub listingIn : List ℕ → Listed
+listingIn w = record { records = table capabilityOf w 2221 14 17; count = below 18 (getD w 2220 0) }
+
+-- as many words as before, the same first one, and what is listed as it was
 pub record Same (w w′ : List ℕ) : Type 0 where
   pub first : getD w′ 0 0 ≡ getD w 0 0
   pub long : length w′ ≡ length w
+  pub listed : listingIn w′ ≡ listingIn w
 
 -- what a store leaves
 pub record Becomes (w w′ : List ℕ) (rt : Runtime) : Type 0 where
   pub same : Same w w′
   pub stored : runtimeIn w′ ≡ rt
+
+-- .. of what is listed for the next start: the runtime is as it was
+pub record Lists (w w′ : List ℕ) (l : Listed) : Type 0 where
+  pub first : getD w′ 0 0 ≡ getD w 0 0
+  pub long : length w′ ≡ length w
+  pub runtime : runtimeIn w′ ≡ runtimeIn w
+  pub listed : listingIn w′ ≡ l

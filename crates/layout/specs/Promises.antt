@@ -16,4 +16,4 @@ pub record Goes (w w′ : List ℕ) (answer : Answer) (given : Type 0) (x : Reac
 -- 01: what is turned away leaves the "whole state", here every word
 pub record Turns (w w′ : List ℕ) (answer : Answer) (given : Type 0) (x : Reaction) : Type 0 where
   pub goes : Goes w w′ answer given x
-  pub unaltered : turnsAway answer ≡ true → w′ ≡ w
+  pub unaltered : given → turnsAway answer ≡ true → w′ ≡ w

@@ -69,7 +69,7 @@ ghost use Rattle.rows.specs.Rows.{fallingOf, fallingWords};
 ghost use Rattle.runtime.specs.Kept.{emptied, idled};
 ghost use Rattle.state.specs.State.{InBounds};
 ghost use Rattle.layout.specs.Fields.{withStarting, withWaiting, withNumbers, withCursor, withSlot, withAxis, withWhy, withFalling, withRevoked, withCarrying, withPending, withFixed, withIndex, withRejected, withOthers, withLeases, withActive, withCapabilities, withReplay, withSubmission, withRequest, withRenewal, withSubmitted, withSlots};
-ghost use Rattle.layout.specs.Layout.{Long, runtimeIn, Becomes};
+ghost use Rattle.layout.specs.Layout.{Long, runtimeIn, listingIn, Becomes, Lists};
 
 // look -------------------------------------------------------------------------------------------------------------------
 
@@ -453,4 +453,36 @@ pub fn keep_receipt(state: &mut [u64], at: usize)
 {
     let words = read24(state, 855 + at * 21);
     put_submitted(state, receipt_of(words));
+}
+
+// what is listed for the next start ---------------------------------------------------------------------------------------
+
+// 17 stands for more than 16.
+pub fn listed_count(state: &[u64]) -> usize
+    requires { ⌜ Long (now state) ⌝ }
+    ensures { λ r. ⌜ (r ≡ listingIn (now (state .entry)) .count) × (r < 18) ⌝ }
+{
+    held_below(18, state[2220]) as usize
+}
+
+pub fn listed_at(state: &[u64], at: usize) -> Capability
+    requires { ⌜ Long (now state) × (at < 17) ⌝ }
+    ensures { λ r. ⌜ r ≡ getD (listingIn (now (state .entry)) .records) at noCapability ⌝ }
+{
+    capability_of(read16(state, 2221 + at * 14))
+}
+
+pub fn put_listed(state: &mut [u64], at: usize, capability: Capability)
+    requires { ⌜ Long (now state) × (at < 17) ⌝ }
+    ensures { λ _. ⌜ Lists (now (state .entry)) (now (state .exit)) (record { records = set (listingIn (now (state .entry)) .records) at capability; count = listingIn (now (state .entry)) .count }) ⌝ }
+{
+    let words = capability_row(0, capability);
+    write(state, 2221 + at * 14, &words);
+}
+
+pub fn put_listed_count(state: &mut [u64], count: usize)
+    requires { ⌜ Long (now state) × (count < 18) ⌝ }
+    ensures { λ _. ⌜ Lists (now (state .entry)) (now (state .exit)) (record { records = listingIn (now (state .entry)) .records; count = count }) ⌝ }
+{
+    state[2220] = count as u64;
 }

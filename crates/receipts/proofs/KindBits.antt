@@ -27,7 +27,7 @@ trues-append [] ys = omega arith
 trues-append (true ∷ xs) ys = let e = trues-append xs ys in omega arith
 trues-append (false ∷ xs) ys = trues-append xs ys
 
-trues-one : (x : ℕ) → trues (odd x ∷ []) ≡ x % 2
+pub trues-one : (x : ℕ) → trues (odd x ∷ []) ≡ x % 2
 trues-one x = two (x % 2) (omega arith)
   where
     two : (k : ℕ) → k < 2 → trues (eqb k 1 ∷ []) ≡ k
@@ -186,7 +186,7 @@ module _ (at e x : ℕ) where
       sym (take-take at (suc at) (kindsOf (suc at + e) x) (omega arith)) ∙ ap (take at) next-front
       ∙ take-at (kindsOf at (upto / 2)) (odd upto ∷ []) at (kinds-length at (upto / 2))
 
-trues-ones : (c x : ℕ) → x < 2 ^ c → trues (kindsOf c x) ≡ ones x
+pub trues-ones : (c x : ℕ) → x < 2 ^ c → trues (kindsOf c x) ≡ ones x
 unfolding kindsOf ones onesIn
 trues-ones zero x h = let e : x ≡ 0 = omega arith in rw e
 trues-ones (suc c) x h =

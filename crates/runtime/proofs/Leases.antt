@@ -110,7 +110,7 @@ grants h time g z slot k b p v =
 
 -- a renewal -------------------------------------------------------------------------------------------------------------------
 
-abbrev until : ℕ → LeaseSlot → LeaseSlot
+abbrev pub until : ℕ → LeaseSlot → LeaseSlot
 until end s =
     record {
       presence = s .presence;
@@ -127,7 +127,7 @@ until end s =
           };
     }
 
-abbrev renewedAs : ℕ → LeaseSlot → LeaseSlot
+abbrev pub renewedAs : ℕ → LeaseSlot → LeaseSlot
 renewedAs renewal s =
     record {
       presence = s .presence;
@@ -145,15 +145,15 @@ renewedAs renewal s =
     }
 
 -- stored one after the other
-abbrev twice : ℕ → ℕ → ℕ → List LeaseSlot → List LeaseSlot
+abbrev pub twice : ℕ → ℕ → ℕ → List LeaseSlot → List LeaseSlot
 twice end renewal i ls =
     set (set ls i (until end (getD ls i noLease))) i (renewedAs renewal (getD (set ls i (until end (getD ls i noLease))) i noLease))
 
 module _ (end renewal i : ℕ) (ls : List LeaseSlot) (sized : length ls ≡ 9) (b : i < 8) where
-  abbrev both : LeaseSlot
+  abbrev pub both : LeaseSlot
   both = renewedAs renewal (until end (getD ls i noLease))
 
-  once : twice end renewal i ls ≡ set ls i both
+  pub once : twice end renewal i ls ≡ set ls i both
   once =
       rw (getD-set-same ls i (until end (getD ls i noLease)) noLease (rw sized (omega (arith, b))))
       (set-set ls i (until end (getD ls i noLease)) both)

@@ -1,0 +1,4 @@
+pub mod Courses
+pub mod Leases
+pub mod Orders
+pub mod Replies

@@ -1,0 +1,4 @@
+pub mod Finds
+pub mod Chains
+pub mod Counts
+pub mod Placing
