@@ -47,7 +47,7 @@ use Rattle.layout.specs.Layout.{runtimeIn, Same, Becomes}
 use Rattle.layout.specs.Promises.{Goes, Turns}
 use Rattle.host_calls.specs.Calls.{Steps, Tried}
 use Rattle.host_steps.specs.Altered.{BeginsIn}
-use Rattle.host_store.proofs.Chains.{same-words, same-then, becomes-then}
+use Rattle.layout.proofs.Chains.{same-words, same-then, becomes-then}
 use Rattle.host_steps.proofs.Courses.{is-so, is-not}
 
 -- what goes on is not turned away ---------------------------------------------------------------------------------------------

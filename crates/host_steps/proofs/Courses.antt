@@ -42,7 +42,7 @@ use Rattle.layout.specs.Layout.{runtimeIn, Becomes}
 use Rattle.layout.specs.Promises.{Goes}
 use Rattle.host_store.specs.Stores.{Follows}
 use Rattle.host_steps.specs.Altered.{soonerAt, pendingAt, BeginsIn, TightensIn}
-use Rattle.host_store.proofs.Chains.{same-words, same-then, becomes-then, goes-by}
+use Rattle.layout.proofs.Chains.{same-words, same-then, becomes-then, goes-by}
 
 -- a test that was made
 pub is-so : {b : Bool} → b ≡ true → T b

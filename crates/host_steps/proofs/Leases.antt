@@ -46,7 +46,7 @@ use Rattle.layout.specs.Layout.{runtimeIn, Becomes}
 use Rattle.layout.specs.Promises.{Goes}
 use Rattle.host_store.specs.Stores.{RecordsIn}
 use Rattle.host_steps.specs.Altered.{lengthenedSlot}
-use Rattle.host_store.proofs.Chains.{same-then, becomes-then}
+use Rattle.layout.proofs.Chains.{same-then, becomes-then}
 
 -- the test of an axis and an end, made with a difference
 module _ (axis time duration : ℕ) where

@@ -55,7 +55,7 @@ use Rattle.layout.specs.Layout.{runtimeIn, Becomes}
 use Rattle.layout.specs.Promises.{Goes}
 use Rattle.host_steps.specs.Altered.{sequencedSlot}
 use Rattle.host_store.specs.Stores.{RecordsIn}
-use Rattle.host_store.proofs.Chains.{same-then, becomes-then, goes-by}
+use Rattle.layout.proofs.Chains.{same-then, becomes-then, goes-by}
 
 -- a receipt put into its slot after other stores
 pub records-by : {w w₁ w₂ : List ℕ} {rt : Runtime} {rejection : Bool} {after : AfterRecord} {r : Receipt} {a : Answer} {x : Reaction} (given : Type 0)

@@ -64,7 +64,7 @@ use Rattle.layout.specs.Layout.{runtimeIn, Becomes}
 use Rattle.layout.specs.Promises.{Goes, Turns}
 use Rattle.host_store.specs.Stores.{RecordsIn, Follows}
 use Rattle.host_steps.specs.Altered.{executing, restedBy}
-use Rattle.host_store.proofs.Chains.{same-words, same-then, becomes-then}
+use Rattle.layout.proofs.Chains.{same-words, same-then, becomes-then}
 use Rattle.host_steps.proofs.Orders.{records-by}
 
 -- what is read is inside its table, whatever the words

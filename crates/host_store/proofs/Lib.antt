@@ -1,4 +1,3 @@
 pub mod Finds
-pub mod Chains
 pub mod Counts
 pub mod Placing

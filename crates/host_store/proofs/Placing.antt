@@ -34,7 +34,7 @@ use Rattle.layout.specs.Fields.{withWaiting, withNumbers, withSlot, withWhy, wi
 use Rattle.layout.specs.Layout.{runtimeIn, Becomes}
 use Rattle.host_store.specs.Pushes.{AnyPush, PlacesAny}
 use Rattle.host_store.specs.Stores.{nextReceipt, Places, RecordsIn, Follows}
-use Rattle.host_store.proofs.Chains.{same-then, becomes-then}
+use Rattle.layout.proofs.Chains.{same-then, becomes-then}
 
 -- a placement ------------------------------------------------------------------------------------------------------------
 

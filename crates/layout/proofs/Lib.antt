@@ -1,4 +1,5 @@
 pub mod Becomes
+pub mod Chains
 pub mod Fields
 pub mod Listing
 pub mod Stored

@@ -1,7 +1,7 @@
 use native.Mathlib.Omega.{arith}
 use mathlib.Core.Path.{_∙_}
 use Rattle.host_steps.proofs.Orders.{end-fits, end-unfit, admits-on}
-use Rattle.host_store.proofs.Chains.{long-after}
+use Rattle.layout.proofs.Chains.{long-after}
 use borrow.Author.Needs.{needs}
 use Rattle.host_steps.proofs.admit.Statement.{statement}
 use Rattle.host_steps.proofs.admit.Tie as tie

@@ -1,5 +1,5 @@
 use Rattle.host_steps.proofs.Replies.{carried-low, completes-on}
-use Rattle.host_store.proofs.Chains.{long-after}
+use Rattle.layout.proofs.Chains.{long-after}
 use borrow.Author.Needs.{needs}
 use Rattle.host_steps.proofs.complete.Statement.{statement}
 use Rattle.host_steps.proofs.complete.Tie as tie

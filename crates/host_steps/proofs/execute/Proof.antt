@@ -1,6 +1,6 @@
 use mathlib.Core.Path.{refl}
 use Rattle.host_steps.proofs.Replies.{carried-low, executes-on}
-use Rattle.host_store.proofs.Chains.{long-after}
+use Rattle.layout.proofs.Chains.{long-after}
 use borrow.Author.Needs.{needs}
 use Rattle.host_steps.proofs.execute.Statement.{statement}
 use Rattle.host_steps.proofs.execute.Tie as tie

@@ -1,5 +1,5 @@
 use Rattle.host_steps.proofs.Leases.{axis-fits, end-fits, unfit-grant, grant-goes}
-use Rattle.host_store.proofs.Chains.{long-after}
+use Rattle.layout.proofs.Chains.{long-after}
 use borrow.Author.Tests.{not-true, not-false}
 use native.Mathlib.Omega.{arith}
 use borrow.Author.Needs.{needs}

@@ -1,5 +1,5 @@
 use Rattle.host_steps.proofs.Leases.{axis-fits, end-fits, unfit-renewal, lengthen-goes}
-use Rattle.host_store.proofs.Chains.{long-after}
+use Rattle.layout.proofs.Chains.{long-after}
 use borrow.Author.Tests.{not-true, not-false}
 use borrow.Author.Needs.{needs}
 use Rattle.host_steps.proofs.lengthen.Statement.{statement}

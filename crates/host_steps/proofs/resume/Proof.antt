@@ -1,5 +1,5 @@
 use Rattle.host_steps.proofs.Replies.{falls-low, resumes-on, ends-on}
-use Rattle.host_store.proofs.Chains.{long-after}
+use Rattle.layout.proofs.Chains.{long-after}
 use borrow.Author.Needs.{needs}
 use Rattle.host_steps.proofs.resume.Statement.{statement}
 use Rattle.host_steps.proofs.resume.Tie as tie

@@ -1,5 +1,5 @@
 use Rattle.host_steps.proofs.Courses.{tick-ends, tick-goes-on}
-use Rattle.host_store.proofs.Chains.{long-after}
+use Rattle.layout.proofs.Chains.{long-after}
 use borrow.Author.Needs.{needs}
 use Rattle.host_steps.proofs.supervise.Statement.{statement}
 use Rattle.host_steps.proofs.supervise.Tie as tie

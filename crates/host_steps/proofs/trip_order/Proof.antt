@@ -1,6 +1,6 @@
 use native.Mathlib.Omega.{arith}
 use Rattle.host_steps.proofs.Replies.{trips-on}
-use Rattle.host_store.proofs.Chains.{long-after}
+use Rattle.layout.proofs.Chains.{long-after}
 use borrow.Author.Needs.{needs}
 use Rattle.host_steps.proofs.trip_order.Statement.{statement}
 use Rattle.host_steps.proofs.trip_order.Tie as tie

@@ -1,5 +1,5 @@
 use Rattle.layout.specs.Fields.{withWhy}
-use Rattle.host_store.proofs.Chains.{becomes-then, goes-by}
+use Rattle.layout.proofs.Chains.{becomes-then, goes-by}
 use Rattle.runtime.proofs.Alters.{refuses}
 use borrow.Author.Needs.{needs}
 use Rattle.host_store.proofs.refuse.Statement.{statement}
