@@ -5,7 +5,7 @@ ghost use Prim.Native.Nat.{_+_, _≤_};
 ghost use lib.ListN.{length};
 ghost use Rattle.cells.specs.Cells.{part, put};
 
-// A state has fewer words than this.
+// No state has 65536 words.
 pub fn write(state: &mut [u64], at: usize, words: &[u64])
     requires { ⌜ (at + length (now words) ≤ length (now state)) × (at + length (now words) ≤ 65536) ⌝ }
     ensures { λ _. ⌜ now (state .exit) ≡ put (now (state .entry)) at (now (words .entry)) ⌝ }

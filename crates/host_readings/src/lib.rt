@@ -1,6 +1,5 @@
 // What a host sees of lent words (crate `runtime`, "what a host sees" and "readings"). Promises: where the words are a sound runtime's, its start included,
 // the item whose reply is awaited, what an answer speaks of, and what the rules' readings show. Rests on `decide_read` and on `layout`.
-use decide_order::rejected;
 use decide_read::CapabilityShown;
 use decide_read::ConfigShown;
 use decide_read::ItemShown;

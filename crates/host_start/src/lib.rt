@@ -1,6 +1,6 @@
 // A start over lent words (crate `runtime`, "start"): capabilities are listed one by one, then a start checks them where they stand and makes the words
 // those of a runtime. Promises: whatever the words hold, as many and the same first word; the runtime is the one that the rules start with what is
-// listed, nothing stays listed, and nothing of an earlier life is left. Rests on `decide_start` for the checks and on `layout` for the words.
+// listed, and nothing stays listed. Rests on `decide_start` for the checks and on `layout` for the words.
 use decide_start::first_trial;
 use decide_start::is_bad;
 use decide_start::numbers_of;

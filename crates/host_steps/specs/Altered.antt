@@ -1,7 +1,6 @@
 -- What the calls and replies leave in their own fields.
 use Prim.Native.Nat.{ℕ}
 use mathlib.Core.List.{List}
-use mathlib.Core.Path.{_≡_}
 use Rattle.model.specs.declared.LeaseSlot.{LeaseSlot}
 use Rattle.runtime.specs.declared.Runtime.{Runtime}
 use Rattle.runtime.specs.Promises.{Good, Begins, Tightens}
@@ -14,7 +13,7 @@ use Rattle.decide_tick.specs.declared.Begun.{Begun}
 use Rattle.layout.specs.Fields.{withWaiting, withCarrying}
 use Rattle.layout.specs.Layout.{runtimeIn, Same}
 
--- a slot whose lease ends later, by its renewal
+-- a slot whose lease has the end and the number of its renewal
 abbrev pub lengthenedSlot : ℕ → ℕ → LeaseSlot → LeaseSlot
 lengthenedSlot end renewal s =
     record {

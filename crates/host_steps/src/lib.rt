@@ -276,7 +276,7 @@ pub fn acquire_on(state: &mut [u64], time: u64) -> Answer
     }
 }
 
-// A slot whose lease ends later, by its renewal.
+// A slot whose lease has the end and the number of its renewal.
 fn lengthened(slot: LeaseSlot, expires_at: u64, renewal: u64) -> LeaseSlot
     ensures { λ r. ⌜ r ≡ lengthenedSlot «expires_at» renewal slot ⌝ }
 {

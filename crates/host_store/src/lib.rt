@@ -5,7 +5,6 @@ use decide_flags::is_forbidden;
 use decide_lease::allowed_step;
 use decide_lease::is_held;
 use decide_order::is_hit;
-use decide_order::rejected;
 use decide_resume::Sought;
 use decide_tick::is_due;
 use decide_tick::soonest_step;

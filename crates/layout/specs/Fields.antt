@@ -1,7 +1,6 @@
 -- A runtime by its fields, and with one of them altered.
 use Prim.Native.Nat.{ℕ}
 use mathlib.Core.List.{List}
-use lib.ListN.{set}
 use Rattle.model.specs.declared.ActiveSlot.{ActiveSlot}
 use Rattle.model.specs.declared.Capability.{Capability}
 use Rattle.model.specs.declared.LeaseRequest.{LeaseRequest}

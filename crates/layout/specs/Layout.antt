@@ -1,14 +1,15 @@
--- How a runtime's words lie: which words are which field, and the runtime that they are. The last element of a table is spare.
+-- How a runtime's words lie: which words are which field, and the runtime that they are. The last element of each of a runtime's tables is spare; the words
+-- from 2459 on are no field, but stand in the last window.
 --
 --      0 what the words are, and which version   31 the call in hand          189 leases, 9 rows of 12       818 the request in hand
 --      1 what is awaited                         36 the start                 297 orders, 9 rows of 15       828 the renewal in hand
 --      3 the numbers                             38 what a start sets         432 capabilities, 17 of 14     834 the receipt kept for an answer
 --     14 cursor, slot, axis, reason              54 the receipts' index       670 replay entries, 33 of 4    855 receipts, 65 rows of 21
---     18 the fallback in hand                    59 places of rejections, 65  802 the order in hand         2220 how many are listed for a start
+--     18 the fallback in hand                    59 places of rejections, 65  802 the order submitted        2220 how many are listed for a start
 --     25 the lease that it took                 124 places of the others, 65                                2221 those listed, 17 rows of 14
---     28 the order in the driver's hands
+--     28 how far its execution is
 use Prim.Native.Nat.{ℕ, _%_, _≤_}
-use mathlib.Core.List.{List, map}
+use mathlib.Core.List.{List}
 use mathlib.Core.Path.{_≡_}
 use lib.ListN.{length, getD}
 use Rattle.cells.specs.Cells.{part, table}
@@ -20,13 +21,9 @@ use Rattle.runtime.specs.declared.Places.{Places}
 use Rattle.runtime.specs.declared.Runtime.{Runtime}
 use Rattle.layout.specs.Fields.{built}
 
--- how many words a host lends, and the first of them
+-- how many words a host lends
 abbrev pub size : ℕ
 size = 2464
-
--- "ROLTHAI", version 1
-abbrev pub magic : ℕ
-magic = 5931043159143434497
 
 -- a slot number of a circle
 abbrev pub slotNumberOf : List ℕ → ℕ

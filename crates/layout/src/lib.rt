@@ -59,7 +59,7 @@ use state::Numbers;
 use state::Pending;
 use state::Revoked;
 use state::Waiting;
-ghost use Prim.Native.Nat.{_<_, _%_};
+ghost use Prim.Native.Nat.{_<_};
 ghost use mathlib.Core.Path.{_≡_};
 ghost use lib.ListN.{getD, set};
 ghost use Rattle.model.specs.Records.{noLease, noActive, noCapability, noReplay};
@@ -339,7 +339,7 @@ pub fn put_fixed(state: &mut [u64], fixed: Fixed)
     write(state, 38, &words);
 }
 
-// An axis that is none goes in as the first.
+// An axis that is none is read back as 0.
 pub fn put_falling(state: &mut [u64], falling: Falling)
     requires { ⌜ Long (now state) ⌝ }
     ensures { λ _. ⌜ Becomes (now (state .entry)) (now (state .exit)) (withFalling (fallingOf (fallingWords falling)) (runtimeIn (now (state .entry)))) ⌝ }

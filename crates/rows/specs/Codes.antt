@@ -1,7 +1,7 @@
 -- The words of the state's cases: each case is its place in a list, and a word past the last is the first case, so that every word means
--- something. Numbers that are places in a table are held below its length in the same way.
+-- something. A number that is a place of a table is 0 where it is past the last.
 use Prim.Native.Nat.{ℕ, _+_, _*_, _/_, _%_}
-use mathlib.Core.Bool.{Bool, cond}
+use mathlib.Core.Bool.{cond}
 use mathlib.Core.List.{List, [], _∷_}
 use lib.Dec.{ltb}
 use lib.IntN.{ℤ}

@@ -1,5 +1,5 @@
--- The rows of words that the parts of the state are stored as, each in the order of its fields. A call in hand and a capability are the words
--- of their records (docs/WIRE.md). Every row means something.
+-- The rows of words that the parts of the state are stored as. A request, a renewal, an order and a capability are the words of their records, a lease and
+-- a receipt those of theirs (docs/WIRE.md), but that a receipt has its pairs of 32 bits in one word each. Every row means something.
 use Prim.Native.Nat.{ℕ}
 use mathlib.Core.Bool.{false}
 use mathlib.Core.List.{List, [], _∷_, _++_}
@@ -245,7 +245,7 @@ receiptRow x =
     ∷ bit (x .«observed_valid»)
     ∷ []
 
--- the calls in hand, by the words of their records (the first word, a record's kind, is not read) ---------------------------
+-- the calls in hand, by the words of their records (kind and time of a request, and the kind of the others, are not read) ---------------------------
 
 unfoldable pub requestRow : LeaseRequest → List ℕ
 requestRow x =

@@ -1,6 +1,5 @@
 // The rows of words that the parts of the state are stored as (specs/Codes, specs/Rows). Promises: a row is read as its definition says, whatever
-// its words; the words of a part are those from which it is read again. And a push of any five numbers of an index. Rests on `format` for the
-// words of the records, and on `receipts` for the push.
+// its words; the words of a part are those from which it is read again. Rests on `format` for the words of the records.
 use decide_start::Stage;
 use decide_start::Starting;
 use format::as_bool;
