@@ -9,7 +9,7 @@ use lib.Dec.{T}
 use lib.IntN.{ℤ, pos, negsuc, natAbs, _-ℤ_}
 use lib.Signed.{leZ, nonNeg, mag}
 use mir.Facts.{toZ-ofZ, toZ-pos}
-use mir.Syntax.{w32, w64}
+use mir.Syntax.{w32}
 use mir.Val.{SFits, Fits, toZ, ofZ}
 use Rattle.format.specs.Decode.{signed}
 use Rattle.format.specs.Encode.{unsigned}
@@ -44,12 +44,12 @@ along P z f p = subst⁻¹ P (toZ-ofZ {w = w32} f) p
 signOf : (z : ℤ) → SFits w32 z → (t : Bool) → leZ (pos 0) (read z) ≡ t → leZ (pos 0) z ≡ t
 signOf z f t h = subst (λ (y : ℤ). leZ (pos 0) y ≡ t) (toZ-ofZ {w = w32} f) h
 
-low : (z : ℤ) → SFits w32 z → leZ (pos 0) z ≡ true → T (nonNeg z) × Fits w64 (natAbs z)
+low : (z : ℤ) → SFits w32 z → leZ (pos 0) z ≡ true → T (nonNeg z) × Fits w32 (natAbs z)
 low (pos n) f h = (tt, record { fits = let k : n < 2147483648 = f .sfits in omega arith })
 low (negsuc n) f h = absurd (false≢true h)
 
-pub low-fits : (z : ℤ) → SFits w32 z → leZ (pos 0) (read z) ≡ true → T (nonNeg (read z)) × Fits w64 (natAbs (read z))
-low-fits z f h = along (λ (y : ℤ). T (nonNeg y) × Fits w64 (natAbs y)) z f (low z f (signOf z f true h))
+pub low-fits : (z : ℤ) → SFits w32 z → leZ (pos 0) (read z) ≡ true → T (nonNeg (read z)) × Fits w32 (natAbs (read z))
+low-fits z f h = along (λ (y : ℤ). T (nonNeg y) × Fits w32 (natAbs y)) z f (low z f (signOf z f true h))
 
 low-is : (z : ℤ) → leZ (pos 0) z ≡ true → natAbs z ≡ unsigned z
 unfolding unsigned
@@ -83,9 +83,9 @@ module _ (z : ℤ) (f : SFits w32 z) (h : leZ (pos 0) (read z) ≡ false) where
   again : read (negsuc 0 -ℤ read z) ≡ pos (mag z)
   again = toZ-ofZ {w = w32} flip-fits ∙ flip z f h
 
-  pub flip-cast : T (nonNeg (read (negsuc 0 -ℤ read z))) × Fits w64 (natAbs (read (negsuc 0 -ℤ read z)))
+  pub flip-cast : T (nonNeg (read (negsuc 0 -ℤ read z))) × Fits w32 (natAbs (read (negsuc 0 -ℤ read z)))
   flip-cast =
-      subst⁻¹ (λ (y : ℤ). T (nonNeg y) × Fits w64 (natAbs y)) again (tt, record { fits = let k : mag z < 2147483648 = less in omega arith })
+      subst⁻¹ (λ (y : ℤ). T (nonNeg y) × Fits w32 (natAbs y)) again (tt, record { fits = let k : mag z < 2147483648 = less in omega arith })
 
   pub flip-below : natAbs (read (negsuc 0 -ℤ read z)) ≤ 4294967295
   flip-below = subst⁻¹ (λ (y : ℤ). natAbs y ≤ 4294967295) again (let k : mag z < 2147483648 = less in omega arith)

@@ -307,14 +307,21 @@ pub fn bit(value: bool) -> u64
     if value { 1 } else { 0 }
 }
 
-pub fn unsigned(value: i32) -> u64
+// The same 32 bits: in this width both arms are the value itself, and cost nothing.
+fn bits_of(value: i32) -> u32
     ensures { λ r. ⌜ r ≡ unsignedOf value ⌝ }
 {
     if value >= 0 {
-        return value as u64;
+        return value as u32;
     }
     let below = -1 - value;
-    4294967295 - (below as u64)
+    4294967295 - (below as u32)
+}
+
+pub fn unsigned(value: i32) -> u64
+    ensures { λ r. ⌜ r ≡ unsignedOf value ⌝ }
+{
+    bits_of(value) as u64
 }
 
 fn class_of(word: u64) -> ExecutionClass

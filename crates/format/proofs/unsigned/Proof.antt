@@ -1,26 +1,19 @@
+use mathlib.Core.Path.{ap, _∙_}
+use mir.Facts.{toZ-ofZ}
+use mir.Syntax.{w32}
+use Rattle.format.specs.Encode.{unsigned}
 use borrow.Author.Needs.{needs}
-use Rattle.format.proofs.SignLaws.{low-fits, unsigned-low, flip-fits, flip-cast, flip-below, unsigned-high}
 use Rattle.format.proofs.unsigned.Statement.{statement}
 use Rattle.format.proofs.unsigned.Tie as tie
 
+bits-of-requires : tie.Need-bits-of-requires
+bits-of-requires c κs = search needs
+
 cast-result : tie.Need-cast-result
-cast-result c = low-fits (c .before .args .value) (search needs) (c .if1 .taken)
+cast-result c = search needs
 
 returns : tie.Need-returns
-returns c = unsigned-low (c .before .args .value) (search needs) (c .if1 .taken)
-
-sub-below : tie.Need-sub-below
-sub-below c = flip-fits (c .before .args .value) (search needs) (c .if1 .left)
-
-cast-result-2 : tie.Need-cast-result-2
-cast-result-2 c = flip-cast (c .before .args .value) (search needs) (c .if1 .left)
-
-sub-result : tie.Need-sub-result
-sub-result c = flip-below (c .before .args .value) (search needs) (c .if1 .left)
-
-returns-2 : tie.Need-returns-2
-returns-2 c = unsigned-high (c .before .args .value) (search needs) (c .if1 .left)
+returns c = c .bits-of .ensures ∙ ap unsigned (toZ-ofZ {w = w32} {z = c .before .args .value} (search needs))
 
 pub unsigned-spec : {M : Type 1} → statement M
-unsigned-spec =
-    tie.close (tie.spec cast-result returns sub-below cast-result-2 sub-result returns-2)
+unsigned-spec = tie.close (tie.spec bits-of-requires cast-result returns)
