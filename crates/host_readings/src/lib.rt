@@ -59,6 +59,7 @@ ghost use mathlib.Core.Path.{_≡_};
 ghost use lib.Dec.{ltb};
 ghost use Rattle.rules.specs.Interaction.{Refused, Submitted};
 ghost use Rattle.runtime.specs.Runtimes.{stateIn};
+ghost use Rattle.rows.specs.Rows.{Headed};
 ghost use Rattle.layout.specs.Layout.{Long, runtimeIn};
 
 // what a host sees -----------------------------------------------------------------------------------------------------
@@ -166,6 +167,7 @@ pub fn capability(state: &[u64], index: usize) -> CapabilityShown
 
 // How many receipts are kept; none where the index is none.
 fn retained_any(index: Index) -> usize
+    requires { ⌜ Headed index ⌝ }
     ensures { λ r. ⌜ RetainedAny index r ⌝ }
 {
     if is_numbered(index) {
@@ -206,6 +208,7 @@ pub fn snapshot(state: &[u64]) -> SnapshotShown
 
 // Where a receipt is noted; nowhere where the index is none.
 fn noted_any(index: Index, at: usize) -> Noted
+    requires { ⌜ Headed index ⌝ }
     ensures { λ r. ⌜ NotedAny index at r ⌝ }
 {
     if is_numbered(index) {

@@ -13,6 +13,7 @@ use Rattle.receipts.specs.Orders.{Counted}
 use Rattle.receipts.specs.Indexes.{Numbered, Keeps, Pushes}
 use Rattle.receipts.proofs.KindBits.{trues-ones}
 use Rattle.receipts.proofs.Circles.{lt-or-ge}
+use Rattle.rows.specs.Rows.{Headed}
 use Rattle.host_store.specs.Pushes.{Tells, AnyPush}
 
 -- a number has as many bits as its leading zeros leave
@@ -48,10 +49,10 @@ module _ (i : Index) where
   pub numbered-not : (Numbered i → ⊥) → Tells false (Numbered i)
   numbered-not n = no-tell (Numbered i) n
 
-  pub numbered-by : (r : Bool) → i .rejected .head < 64 → i .others .head < 64 → i .rejected .count + i .others .count ≤ 64
+  pub numbered-by : (r : Bool) → Headed i → i .rejected .count + i .others .count ≤ 64
       → Tells r (Counted (i .kinds) (i .rejected .count) (i .others .count)) → Tells r (Numbered i)
-  numbered-by r a b w t = record {
-    yes = λ e. record { rejections = a; others = b; within = w; counted = t .yes e };
+  numbered-by r h w t = record {
+    yes = λ e. record { rejections = h .0; others = h .1; within = w; counted = t .yes e };
     no = λ n. t .no (n .counted);
   }
 
@@ -63,6 +64,7 @@ module _ (i : Index) (k : Bool) (a b : ℕ) where
       record {
         inside = omega (arith, g .inside);
         below = omega arith;
+        heads = (g .numbered .rejections, g .numbered .others);
         pushes = λ n.
             record {
               numbered = g .numbered;
@@ -74,10 +76,11 @@ module _ (i : Index) (k : Bool) (a b : ℕ) where
             };
       }
 
-  pub any-spare : (t : Bool) → Tells t (Numbered i) → t ≡ false → AnyPush i k a b (record { index = i; slot = 64; place = 64 })
-  any-spare t d e =
+  pub any-spare : (t : Bool) → Headed i → Tells t (Numbered i) → t ≡ false → AnyPush i k a b (record { index = i; slot = 64; place = 64 })
+  any-spare t h d e =
       record {
         inside = omega arith;
         below = omega arith;
+        heads = h;
         pushes = λ n. absurd (let q = d .no n in let z : _≡_ {A = Bool} true false = sym q ∙ e in let y : _≡_ {A = ℕ} 0 1 = cc in omega arith);
       }

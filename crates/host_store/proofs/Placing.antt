@@ -45,6 +45,7 @@ module _ {i : Index} {k : Bool} {a b : ℕ} (p : Pushed) (m : AnyPush i k a b p)
         slot = m .below;
         rejected = m .inside;
         others = omega arith;
+        heads = m .heads;
         places = λ n. record { pushed = p; pushes = m .pushes n; index = refl; slot = refl; rejected = rw e; others = rw e };
       }
 
@@ -54,16 +55,9 @@ module _ {i : Index} {k : Bool} {a b : ℕ} (p : Pushed) (m : AnyPush i k a b p)
         slot = m .below;
         rejected = omega arith;
         others = m .inside;
+        heads = m .heads;
         places = λ n. record { pushed = p; pushes = m .pushes n; index = refl; slot = refl; rejected = rw e; others = rw e };
       }
-
--- a clamp does nothing to what is inside
-clamped : (bound n at : ℕ) → at ≡ cond (ltb n bound) n bound → n < bound → at ≡ n
-clamped bound n at e h = e ∙ (rw (lt-ltb n bound h))
-
--- the slot number at a circle's head
-at-head : (l : List ℕ) (n at a : ℕ) → at ≡ cond (ltb n 64) n 64 → a ≡ getD l at 0 → n < 64 → a ≡ getD l n 0
-at-head l n at a e f h = f ∙ ap (λ (x : ℕ). getD l x 0) (clamped 64 n at e h)
 
 -- what is stored for a slot
 placing-of : (p : Placement) (after : AfterRecord) (h : Runtime) (next : Numbers) (waits : Waiting) (slot : ℕ)
@@ -71,24 +65,23 @@ placing-of : (p : Placement) (after : AfterRecord) (h : Runtime) (next : Numbers
     → withSlot slot (withOthers (set (h .places .others) (p .«others_at») (p .slot)) (withRejected (set (h .places .rejected) (p .«rejected_at») (p .slot)) (withIndex (p .index) (withWaiting waits (withNumbers next h))))) ≡ placedIn p after h
 placing-of p after h next waits slot n v s = rw (n, v, s)
 
-module _ (h : Runtime) {k : Bool} {i : Index} {a b at bt : ℕ} (p : Placement) (kept : Kept h) (m : PlacesAny i k a b p) where
-  places-in : i ≡ h .places .index → at ≡ cond (ltb (i .rejected .head) 64) (i .rejected .head) 64 → a ≡ getD (h .places .rejected) at 0
-      → bt ≡ cond (ltb (i .others .head) 64) (i .others .head) 64 → b ≡ getD (h .places .others) bt 0 → PlacesAs (h .places .index) k (oldestRejected h) (oldestOther h) p
-  places-in e at-is a-is bt-is b-is =
-      let numbered = kept .placed .receipts .numbered in
-      let f : a ≡ oldestRejected h = at-head (h .places .rejected) _ at a (rw e at at-is) a-is (numbered .rejections) in
-      let g : b ≡ oldestOther h = at-head (h .places .others) _ bt b (rw e at bt-is) b-is (numbered .others) in
-      (rw (e, f, g) at m) .places numbered
+module _ (h : Runtime) {k : Bool} {i : Index} {a b : ℕ} (p : Placement) (kept : Kept h) (m : PlacesAny i k a b p) where
+  places-in : i ≡ h .places .index → a ≡ getD (h .places .rejected) (i .rejected .head) 0 → b ≡ getD (h .places .others) (i .others .head) 0
+      → PlacesAs (h .places .index) k (oldestRejected h) (oldestOther h) p
+  places-in e a-is b-is =
+      let f : a ≡ oldestRejected h = (rw e at a-is) in
+      let g : b ≡ oldestOther h = (rw e at b-is) in
+      (rw (e, f, g) at m) .places (kept .placed .receipts .numbered)
 
-pub places : {w w₁ w₂ w₃ w₄ w₅ w′ : List ℕ} {k : Bool} {after : AfterRecord} {i : Index} {a b at bt : ℕ} {numbers next : Numbers} {waits : Waiting} (p : Placement)
-    → i ≡ runtimeIn w .places .index → at ≡ cond (ltb (i .rejected .head) 64) (i .rejected .head) 64 → a ≡ getD (runtimeIn w .places .rejected) at 0
-    → bt ≡ cond (ltb (i .others .head) 64) (i .others .head) 64 → b ≡ getD (runtimeIn w .places .others) bt 0 → PlacesAny i k a b p
+pub places : {w w₁ w₂ w₃ w₄ w₅ w′ : List ℕ} {k : Bool} {after : AfterRecord} {i : Index} {a b : ℕ} {numbers next : Numbers} {waits : Waiting} (p : Placement)
+    → i ≡ runtimeIn w .places .index → a ≡ getD (runtimeIn w .places .rejected) (i .rejected .head) 0
+    → b ≡ getD (runtimeIn w .places .others) (i .others .head) 0 → PlacesAny i k a b p
     → numbers ≡ runtimeIn w .numbers → next ≡ nextReceipt numbers → waits ≡ record { awaited = Awaited.Record; «after_record» = after }
     → Becomes w w₁ (withNumbers next (runtimeIn w)) → Becomes w₁ w₂ (withWaiting waits (runtimeIn w₁)) → Becomes w₂ w₃ (withIndex (p .index) (runtimeIn w₂))
     → Becomes w₃ w₄ (withRejected (set (runtimeIn w₃ .places .rejected) (p .«rejected_at») (p .slot)) (runtimeIn w₃))
     → Becomes w₄ w₅ (withOthers (set (runtimeIn w₄ .places .others) (p .«others_at») (p .slot)) (runtimeIn w₄))
     → Becomes w₅ w′ (withSlot (below 65 (p .slot)) (runtimeIn w₅)) → Places k after w w′ (p .slot)
-places {w = w} {after = after} {waits = waits} p i-is at-is a-is bt-is b-is m numbers-is next-is waits-is s₁ s₂ s₃ s₄ s₅ s₆ =
+places {w = w} {after = after} {waits = waits} p i-is a-is b-is m numbers-is next-is waits-is s₁ s₂ s₃ s₄ s₅ s₆ =
     let all =
     becomes-then (withSlot (below 65 (p .slot)))
     (becomes-then (λ (h : Runtime). withOthers (set (h .places .others) (p .«others_at») (p .slot)) h)
@@ -101,7 +94,7 @@ places {w = w} {after = after} {waits = waits} p i-is at-is a-is bt-is b-is m nu
       places = λ kept.
           record {
             placement = p;
-            places = places-in (runtimeIn w) p kept m i-is at-is a-is bt-is b-is;
+            places = places-in (runtimeIn w) p kept m i-is a-is b-is;
             stored = all .stored ∙ placing-of p after (runtimeIn w) _ _ _ (next-is ∙ ap nextReceipt numbers-is) waits-is (below-back 65 (p .slot) (m .slot));
             slot = refl;
             inside = m .slot;

@@ -5,6 +5,7 @@ use mathlib.Core.Path.{_≡_}
 use Rattle.receipts.specs.declared.Index.{Index}
 use Rattle.receipts.specs.declared.Pushed.{Pushed}
 use Rattle.receipts.specs.Indexes.{Numbered, Pushes}
+use Rattle.rows.specs.Rows.{Headed}
 use Rattle.runtime.specs.declared.Placement.{Placement}
 use Rattle.runtime.specs.Kept.{PlacesAs}
 
@@ -17,10 +18,12 @@ pub record Tells (b : Bool) (P : Type 0) : Type 0 where
 pub record AnyPush (i : Index) (isRejection : Bool) (oldestRejected oldestOther : ℕ) (p : Pushed) : Type 0 where
   pub inside : p .place < 65
   pub below : p .slot < 65
+  pub heads : Headed (p .index)
   pub pushes : Numbered i → Pushes i isRejection oldestRejected oldestOther p
 
 pub record PlacesAny (i : Index) (isRejection : Bool) (oldestRejected oldestOther : ℕ) (p : Placement) : Type 0 where
   pub slot : p .slot < 65
   pub rejected : p .«rejected_at» < 65
   pub others : p .«others_at» < 65
+  pub heads : Headed (p .index)
   pub places : Numbered i → PlacesAs i isRejection oldestRejected oldestOther p

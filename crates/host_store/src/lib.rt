@@ -64,6 +64,7 @@ ghost use lib.ListN.{getD};
 ghost use Rattle.model.specs.Records.{noLease, noCapability, noReplay};
 ghost use Rattle.receipts.specs.Indexes.{Numbered};
 ghost use Rattle.receipts.specs.Orders.{Counted};
+ghost use Rattle.rows.specs.Rows.{Headed};
 ghost use Rattle.replay.specs.Ring.{isHit};
 ghost use Rattle.rules.specs.Admission.{allowed};
 ghost use Rattle.rules.specs.Interaction.{Done, Refused};
@@ -256,18 +257,13 @@ fn is_counted(kinds: u64, rejections: usize, others: usize) -> bool
     u64::count_ones(kinds) as usize == rejections
 }
 
-// Five numbers are an index's.
+// Five numbers are an index's; their heads are places.
 pub fn is_numbered(index: Index) -> bool
+    requires { ⌜ Headed index ⌝ }
     ensures { λ r. ⌜ Tells r (Numbered index) ⌝ }
 {
     let rejected = index.rejected;
     let others = index.others;
-    if rejected.head >= 64 {
-        return false;
-    }
-    if others.head >= 64 {
-        return false;
-    }
     if rejected.count > 64 {
         return false;
     }
@@ -279,6 +275,7 @@ pub fn is_numbered(index: Index) -> bool
 
 // A push of any five numbers: where they are no index's, everything goes to what is spare.
 fn push_any(index: Index, rejected: bool, oldest_rejected: u8, oldest_other: u8) -> Pushed
+    requires { ⌜ Headed index ⌝ }
     ensures { λ r. ⌜ AnyPush index rejected «oldest_rejected» «oldest_other» r ⌝ }
 {
     if is_numbered(index) {
@@ -298,6 +295,7 @@ fn push_any(index: Index, rejected: bool, oldest_rejected: u8, oldest_other: u8)
 }
 
 fn placed(index: Index, oldest_rejected: u8, oldest_other: u8, rejection: bool) -> Placement
+    requires { ⌜ Headed index ⌝ }
     ensures { λ r. ⌜ PlacesAny index rejection «oldest_rejected» «oldest_other» r ⌝ }
 {
     let pushed = push_any(index, rejection, oldest_rejected, oldest_other);
@@ -319,13 +317,6 @@ fn placed(index: Index, oldest_rejected: u8, oldest_other: u8, rejection: bool) 
     }
 }
 
-// A place of a circle, or the spare one.
-fn place_or_last(head: usize) -> usize
-    ensures { λ r. ⌜ (r ≡ cond (ltb head 64) head 64) × (r < 65) ⌝ }
-{
-    if head < 64 { head } else { 64 }
-}
-
 fn with_next(numbers: Numbers) -> Numbers
     ensures { λ r. ⌜ r ≡ nextReceipt numbers ⌝ }
 {
@@ -342,8 +333,8 @@ fn place(state: &mut [u64], rejection: bool, after: AfterRecord) -> usize
     let index = index_in(state);
     let rejected = index.rejected;
     let others = index.others;
-    let oldest_rejected = rejected_at(state, place_or_last(rejected.head));
-    let oldest_other = others_at(state, place_or_last(others.head));
+    let oldest_rejected = rejected_at(state, rejected.head);
+    let oldest_other = others_at(state, others.head);
     let numbers = numbers_in(state);
     let change = placed(index, oldest_rejected, oldest_other, rejection);
     let next = change.index;

@@ -3,6 +3,7 @@ use Prim.Native.Nat.{ℕ, _+_, _*_, _%_, _<_}
 use mathlib.Core.List.{List}
 use mathlib.Core.Path.{_≡_, refl, sym, ap, _∙_}
 use native.Mathlib.Nat.{mul-one, add-zero}
+use native.Mathlib.Omega.{arith}
 use lib.ListN.{length, getD}
 use Rattle.model.specs.declared.ActiveSlot.{ActiveSlot}
 use Rattle.model.specs.declared.Capability.{Capability}
@@ -26,8 +27,13 @@ use Rattle.decide_start.specs.declared.Starting.{Starting}
 use Rattle.cells.specs.Cells.{part, table}
 use Rattle.cells.proofs.Regions.{getD-table}
 use Rattle.format.specs.Decode.{capabilityOf, requestOf, renewalOf, submissionOf, actionOf}
-use Rattle.rows.specs.Rows.{waitingOf, fallingOf, revokedOf, carryingOf, pendingOf, startingOf, numbersOf, fixedOf, leaseSlotOf, activeSlotOf, replaySlotOf, receiptOf, indexOf}
+use Rattle.rows.specs.Rows.{waitingOf, fallingOf, revokedOf, carryingOf, pendingOf, startingOf, numbersOf, fixedOf, leaseSlotOf, activeSlotOf, replaySlotOf, receiptOf, indexOf, Headed}
 use Rattle.layout.specs.Layout.{slotNumberOf, runtimeIn}
+
+-- the heads of any words
+pub index-headed : (w : List ℕ) {i : Index} → i ≡ runtimeIn w .places .index → Headed i
+unfolding runtimeIn indexOf
+index-headed w e = rw e (omega arith, omega arith)
 
 -- fields of their own ----------------------------------------------------------------------------------------------------
 

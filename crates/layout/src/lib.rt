@@ -65,7 +65,7 @@ ghost use lib.ListN.{getD, set};
 ghost use Rattle.model.specs.Records.{noLease, noActive, noCapability, noReplay};
 ghost use Rattle.receipts.specs.Blank.{blank};
 ghost use Rattle.rows.specs.Codes.{below};
-ghost use Rattle.rows.specs.Rows.{fallingOf, fallingWords};
+ghost use Rattle.rows.specs.Rows.{fallingOf, fallingWords, Headed};
 ghost use Rattle.runtime.specs.Kept.{emptied, idled};
 ghost use Rattle.state.specs.State.{InBounds};
 ghost use Rattle.layout.specs.Fields.{withStarting, withWaiting, withNumbers, withCursor, withSlot, withAxis, withWhy, withFalling, withRevoked, withCarrying, withPending, withFixed, withIndex, withRejected, withOthers, withLeases, withActive, withCapabilities, withReplay, withSubmission, withRequest, withRenewal, withSubmitted, withSlots};
@@ -284,7 +284,7 @@ pub fn put_starting(state: &mut [u64], starting: Starting)
 }
 
 pub fn put_index(state: &mut [u64], index: Index)
-    requires { ⌜ Long (now state) ⌝ }
+    requires { ⌜ Long (now state) × Headed index ⌝ }
     ensures { λ _. ⌜ Becomes (now (state .entry)) (now (state .exit)) (withIndex index (runtimeIn (now (state .entry)))) ⌝ }
 {
     let words = index_words(index);

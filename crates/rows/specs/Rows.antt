@@ -1,6 +1,6 @@
 -- The rows of words that the parts of the state are stored as. A request, a renewal, an order and a capability are the words of their records, a lease and
 -- a receipt those of theirs (docs/WIRE.md), but that a receipt has its pairs of 32 bits in one word each. Every row means something.
-use Prim.Native.Nat.{ℕ}
+use Prim.Native.Nat.{ℕ, _%_, _<_}
 use mathlib.Core.Bool.{false}
 use mathlib.Core.List.{List, [], _∷_, _++_}
 use mathlib.Core.Path.{_≡_}
@@ -286,11 +286,15 @@ submissionRow x =
 
 -- the index of the receipts -------------------------------------------------------------------------------------------------
 
+-- the heads of its circles are places of theirs
+abbrev pub Headed : Index → Type 0
+Headed i = (i .rejected .head < 64) × (i .others .head < 64)
+
 unfoldable pub indexOf : List ℕ → Index
 indexOf l =
     record {
-      rejected = record { head = word l 0; count = word l 1 };
-      others = record { head = word l 2; count = word l 3 };
+      rejected = record { head = word l 0 % 64; count = word l 1 };
+      others = record { head = word l 2 % 64; count = word l 3 };
       kinds = word l 4;
     }
 

@@ -56,7 +56,7 @@ ghost use lib.ListN.{getD};
 ghost use Rattle.format.specs.Decode.{capabilityOf, requestOf, renewalOf, submissionOf};
 ghost use Rattle.state.specs.State.{InBounds};
 ghost use Rattle.rows.specs.Codes.{below, paired, lowOf, highOf, signsOf, signsWord, presenceOf, presenceWord, decisionOf, reasonOf, modeOf, awaitedOf, awaitedWord, afterRecordOf, afterRecordWord, afterFallbackOf, afterFallbackWord, afterTripOf, afterTripWord, callKindOf, callKindWord, stageOf, stageWord};
-ghost use Rattle.rows.specs.Rows.{waitingOf, waitingWords, fallingOf, fallingWords, revokedOf, revokedWords, carryingOf, carryingWords, pendingOf, pendingWords, startingOf, startingWords, numbersOf, numbersWords, fixedOf, fixedWords, leaseSlotOf, leaseSlotWords, capabilityRow, activeSlotOf, activeSlotWords, replaySlotOf, replaySlotWords, receiptOf, receiptRow, requestRow, renewalRow, submissionRow, indexOf, indexWords, Rowed};
+ghost use Rattle.rows.specs.Rows.{waitingOf, waitingWords, fallingOf, fallingWords, revokedOf, revokedWords, carryingOf, carryingWords, pendingOf, pendingWords, startingOf, startingWords, numbersOf, numbersWords, fixedOf, fixedWords, leaseSlotOf, leaseSlotWords, capabilityRow, activeSlotOf, activeSlotWords, replaySlotOf, replaySlotWords, receiptOf, receiptRow, requestRow, renewalRow, submissionRow, indexOf, indexWords, Headed, Rowed};
 
 // cases ------------------------------------------------------------------------------------------------------------------
 
@@ -818,11 +818,11 @@ pub fn index_of(words: [u64; 16]) -> Index
 {
     Index {
         rejected: Circle {
-            head: words[0] as usize,
+            head: (words[0] % 64) as usize,
             count: words[1] as usize,
         },
         others: Circle {
-            head: words[2] as usize,
+            head: (words[2] % 64) as usize,
             count: words[3] as usize,
         },
         kinds: words[4],
@@ -830,6 +830,7 @@ pub fn index_of(words: [u64; 16]) -> Index
 }
 
 pub fn index_words(index: Index) -> [u64; 5]
+    requires { ⌜ Headed index ⌝ }
     ensures { λ r. ⌜ Rowed indexOf (indexWords index) index r ⌝ }
 {
     let rejected = index.rejected;

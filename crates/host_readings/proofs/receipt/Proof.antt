@@ -1,3 +1,4 @@
+use Rattle.layout.proofs.Fields.{index-headed}
 use Rattle.host_readings.proofs.Showing.{receipt-shows}
 use borrow.Author.Needs.{needs}
 use Rattle.host_readings.proofs.receipt.Statement.{statement}
@@ -10,7 +11,7 @@ index-in-requires : tie.Need-index-in-requires
 index-in-requires c κs = search needs
 
 noted-any-requires : tie.Need-noted-any-requires
-noted-any-requires c κs = search needs
+noted-any-requires c κs = index-headed _ (c .index-in .ensures)
 
 rejected-at-requires : tie.Need-rejected-at-requires
 rejected-at-requires c κs = search needs

@@ -1,3 +1,4 @@
+use Rattle.layout.proofs.Fields.{index-headed}
 use Rattle.host_readings.proofs.Showing.{count-shows}
 use borrow.Author.Needs.{needs}
 use Rattle.host_readings.proofs.receipt_count.Statement.{statement}
@@ -10,7 +11,7 @@ index-in-requires : tie.Need-index-in-requires
 index-in-requires c κs = search needs
 
 retained-any-requires : tie.Need-retained-any-requires
-retained-any-requires c κs = search needs
+retained-any-requires c κs = index-headed _ (c .index-in .ensures)
 
 number-shown-requires : tie.Need-number-shown-requires
 number-shown-requires c κs = search needs

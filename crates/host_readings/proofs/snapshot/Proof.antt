@@ -1,3 +1,4 @@
+use Rattle.layout.proofs.Fields.{index-headed}
 use Rattle.host_readings.proofs.Showing.{snapshot-shows}
 use borrow.Author.Needs.{needs}
 use Rattle.host_readings.proofs.snapshot.Statement.{statement}
@@ -16,7 +17,7 @@ index-in-requires : tie.Need-index-in-requires
 index-in-requires c κs = search needs
 
 retained-any-requires : tie.Need-retained-any-requires
-retained-any-requires c κs = search needs
+retained-any-requires c κs = index-headed _ (c .index-in .ensures)
 
 snapshot-shown-requires : tie.Need-snapshot-shown-requires
 snapshot-shown-requires c κs = search needs

@@ -1,5 +1,6 @@
 use native.Mathlib.Omega.{arith}
 use Rattle.layout.proofs.Chains.{long-after}
+use Rattle.layout.proofs.Fields.{index-headed}
 use Rattle.host_store.proofs.Placing.{places}
 use borrow.Author.Needs.{needs}
 use Rattle.host_store.proofs.place.Statement.{statement}
@@ -8,60 +9,54 @@ use Rattle.host_store.proofs.place.Tie as tie
 index-in-requires : tie.Need-index-in-requires
 index-in-requires c κs = search needs
 
-place-or-last-requires : tie.Need-place-or-last-requires
-place-or-last-requires c κs = search needs
-
 rejected-at-requires : tie.Need-rejected-at-requires
-rejected-at-requires c κs = search needs
-
-place-or-last-requires-2 : tie.Need-place-or-last-requires-2
-place-or-last-requires-2 c κs = search needs
+rejected-at-requires c κs = (c .before .before .before .before .before .before .pre, omega (arith, index-headed _ (c .before .before .before .index-in .ensures) .0))
 
 others-at-requires : tie.Need-others-at-requires
-others-at-requires c κs = search needs
+others-at-requires c κs = (c .before .before .before .before .before .before .before .before .pre, omega (arith, index-headed _ (c .before .before .before .before .before .index-in .ensures) .1))
 
 numbers-in-requires : tie.Need-numbers-in-requires
 numbers-in-requires c κs = search needs
 
 placed-requires : tie.Need-placed-requires
-placed-requires c κs = search needs
+placed-requires c κs = index-headed _ (c .before .before .before .before .before .before .before .before .index-in .ensures)
 
 with-next-requires : tie.Need-with-next-requires
 with-next-requires c κs = search needs
 
 put-numbers-requires : tie.Need-put-numbers-requires
-put-numbers-requires c κs = c .before .before .before .before .before .before .before .before .before .before .before .before .before .before .before .before .before .pre
+put-numbers-requires c κs = c .before .before .before .before .before .before .before .before .before .before .before .before .before .before .before .pre
 
 recording-requires : tie.Need-recording-requires
 recording-requires c κs = search needs
 
 put-waiting-requires : tie.Need-put-waiting-requires
-put-waiting-requires c κs = long-after (c .before .before .before .before .before .before .before .before .before .before .before .before .before .before .before .before .before .before .before .before .before .before .pre) (c .before .before .before .before .put-numbers .ensures .same)
+put-waiting-requires c κs = long-after (c .before .before .before .before .before .before .before .before .before .before .before .before .before .before .before .before .before .before .before .before .pre) (c .before .before .before .before .put-numbers .ensures .same)
 
 put-index-requires : tie.Need-put-index-requires
-put-index-requires c κs = long-after (long-after (c .before .before .before .before .before .before .before .before .before .before .before .before .before .before .before .before .before .before .before .before .before .before .before .before .before .before .pre) (c .before .before .before .before .before .before .before .before .put-numbers .ensures .same)) (c .before .before .before .put-waiting .ensures .same)
+put-index-requires c κs = (long-after (long-after (c .before .before .before .before .before .before .before .before .before .before .before .before .before .before .before .before .before .before .before .before .before .before .before .before .pre) (c .before .before .before .before .before .before .before .before .put-numbers .ensures .same)) (c .before .before .before .put-waiting .ensures .same), c .before .before .before .before .before .before .before .before .before .before .before .before .placed .ensures .heads)
 
 cast-put-rejected : tie.Need-cast-put-rejected
 cast-put-rejected c = omega (arith, c .before .before .before .before .before .before .before .before .before .before .before .before .before .before .before .before .before .placed .ensures .slot)
 
 put-rejected-requires : tie.Need-put-rejected-requires
-put-rejected-requires c κs = (long-after (long-after (long-after (c .before .before .before .before .before .before .before .before .before .before .before .before .before .before .before .before .before .before .before .before .before .before .before .before .before .before .before .before .before .before .before .pre) (c .before .before .before .before .before .before .before .before .before .before .before .before .before .put-numbers .ensures .same)) (c .before .before .before .before .before .before .before .before .put-waiting .ensures .same)) (c .before .before .before .before .put-index .ensures .same), c .before .before .before .before .before .before .before .before .before .before .before .before .before .before .before .before .before .placed .ensures .rejected)
+put-rejected-requires c κs = (long-after (long-after (long-after (c .before .before .before .before .before .before .before .before .before .before .before .before .before .before .before .before .before .before .before .before .before .before .before .before .before .before .before .before .before .pre) (c .before .before .before .before .before .before .before .before .before .before .before .before .before .put-numbers .ensures .same)) (c .before .before .before .before .before .before .before .before .put-waiting .ensures .same)) (c .before .before .before .before .put-index .ensures .same), c .before .before .before .before .before .before .before .before .before .before .before .before .before .before .before .before .before .placed .ensures .rejected)
 
 cast-put-others : tie.Need-cast-put-others
 cast-put-others c = omega (arith, c .before .before .before .before .before .before .before .before .before .before .before .before .before .before .before .before .before .before .before .before .before .before .placed .ensures .slot)
 
 put-others-requires : tie.Need-put-others-requires
-put-others-requires c κs = (long-after (long-after (long-after (long-after (c .before .before .before .before .before .before .before .before .before .before .before .before .before .before .before .before .before .before .before .before .before .before .before .before .before .before .before .before .before .before .before .before .before .before .before .before .pre) (c .before .before .before .before .before .before .before .before .before .before .before .before .before .before .before .before .before .before .put-numbers .ensures .same)) (c .before .before .before .before .before .before .before .before .before .before .before .before .before .put-waiting .ensures .same)) (c .before .before .before .before .before .before .before .before .before .put-index .ensures .same)) (c .before .before .before .before .put-rejected .ensures .same), c .before .before .before .before .before .before .before .before .before .before .before .before .before .before .before .before .before .before .before .before .before .before .placed .ensures .others)
+put-others-requires c κs = (long-after (long-after (long-after (long-after (c .before .before .before .before .before .before .before .before .before .before .before .before .before .before .before .before .before .before .before .before .before .before .before .before .before .before .before .before .before .before .before .before .before .before .pre) (c .before .before .before .before .before .before .before .before .before .before .before .before .before .before .before .before .before .before .put-numbers .ensures .same)) (c .before .before .before .before .before .before .before .before .before .before .before .before .before .put-waiting .ensures .same)) (c .before .before .before .before .before .before .before .before .before .put-index .ensures .same)) (c .before .before .before .before .put-rejected .ensures .same), c .before .before .before .before .before .before .before .before .before .before .before .before .before .before .before .before .before .before .before .before .before .before .placed .ensures .others)
 
 put-slot-requires : tie.Need-put-slot-requires
-put-slot-requires c κs = long-after (long-after (long-after (long-after (long-after (c .before .before .before .before .before .before .before .before .before .before .before .before .before .before .before .before .before .before .before .before .before .before .before .before .before .before .before .before .before .before .before .before .before .before .before .before .before .before .before .before .pre) (c .before .before .before .before .before .before .before .before .before .before .before .before .before .before .before .before .before .before .before .before .before .before .put-numbers .ensures .same)) (c .before .before .before .before .before .before .before .before .before .before .before .before .before .before .before .before .before .put-waiting .ensures .same)) (c .before .before .before .before .before .before .before .before .before .before .before .before .before .put-index .ensures .same)) (c .before .before .before .before .before .before .before .before .put-rejected .ensures .same)) (c .before .before .before .put-others .ensures .same)
+put-slot-requires c κs = long-after (long-after (long-after (long-after (long-after (c .before .before .before .before .before .before .before .before .before .before .before .before .before .before .before .before .before .before .before .before .before .before .before .before .before .before .before .before .before .before .before .before .before .before .before .before .before .before .pre) (c .before .before .before .before .before .before .before .before .before .before .before .before .before .before .before .before .before .before .before .before .before .before .put-numbers .ensures .same)) (c .before .before .before .before .before .before .before .before .before .before .before .before .before .before .before .before .before .put-waiting .ensures .same)) (c .before .before .before .before .before .before .before .before .before .before .before .before .before .put-index .ensures .same)) (c .before .before .before .before .before .before .before .before .put-rejected .ensures .same)) (c .before .before .before .put-others .ensures .same)
 
 same-length : tie.Need-same-length
 same-length c = omega (arith, c .before .before .before .before .before .before .before .before .before .before .before .before .before .before .before .before .before .before .before .before .before .before .before .before .before .put-numbers .ensures .same .long, c .before .before .before .before .before .before .before .before .before .before .before .before .before .before .before .before .before .before .before .before .put-waiting .ensures .same .long, c .before .before .before .before .before .before .before .before .before .before .before .before .before .before .before .before .put-index .ensures .same .long, c .before .before .before .before .before .before .before .before .before .before .before .put-rejected .ensures .same .long, c .before .before .before .before .before .before .put-others .ensures .same .long, c .before .before .put-slot .ensures .same .long)
 
 returns : tie.Need-returns
 returns c =
-    places _ (c .before .before .before .before .before .before .before .before .before .before .before .before .before .before .before .before .before .before .before .before .before .before .before .before .before .before .before .before .before .before .before .before .before .before .before .before .before .before .before .before .index-in .ensures) (c .before .before .before .before .before .before .before .before .before .before .before .before .before .before .before .before .before .before .before .before .before .before .before .before .before .before .before .before .before .before .before .before .before .before .before .before .place-or-last .ensures .0) (c .before .before .before .before .before .before .before .before .before .before .before .before .before .before .before .before .before .before .before .before .before .before .before .before .before .before .before .before .before .before .before .before .before .before .before .rejected-at .ensures) (c .before .before .before .before .before .before .before .before .before .before .before .before .before .before .before .before .before .before .before .before .before .before .before .before .before .before .before .before .before .before .before .before .before .place-or-last2 .ensures .0) (c .before .before .before .before .before .before .before .before .before .before .before .before .before .before .before .before .before .before .before .before .before .before .before .before .before .before .before .before .before .before .before .before .others-at .ensures) (c .before .before .before .before .before .before .before .before .before .before .before .before .before .before .before .before .before .before .before .before .before .before .before .before .before .before .before .before .before .placed .ensures) (c .before .before .before .before .before .before .before .before .before .before .before .before .before .before .before .before .before .before .before .before .before .before .before .before .before .before .before .before .before .before .numbers-in .ensures) (c .before .before .before .before .before .before .before .before .before .before .before .before .before .before .before .before .before .before .before .before .before .before .before .before .before .before .with-next .ensures) (c .before .before .before .before .before .before .before .before .before .before .before .before .before .before .before .before .before .before .before .before .before .recording .ensures)
+    places _ (c .before .before .before .before .before .before .before .before .before .before .before .before .before .before .before .before .before .before .before .before .before .before .before .before .before .before .before .before .before .before .before .before .before .before .before .before .before .before .index-in .ensures) (c .before .before .before .before .before .before .before .before .before .before .before .before .before .before .before .before .before .before .before .before .before .before .before .before .before .before .before .before .before .before .before .before .before .before .rejected-at .ensures) (c .before .before .before .before .before .before .before .before .before .before .before .before .before .before .before .before .before .before .before .before .before .before .before .before .before .before .before .before .before .before .before .before .others-at .ensures) (c .before .before .before .before .before .before .before .before .before .before .before .before .before .before .before .before .before .before .before .before .before .before .before .before .before .before .before .before .before .placed .ensures) (c .before .before .before .before .before .before .before .before .before .before .before .before .before .before .before .before .before .before .before .before .before .before .before .before .before .before .before .before .before .before .numbers-in .ensures) (c .before .before .before .before .before .before .before .before .before .before .before .before .before .before .before .before .before .before .before .before .before .before .before .before .before .before .with-next .ensures) (c .before .before .before .before .before .before .before .before .before .before .before .before .before .before .before .before .before .before .before .before .before .recording .ensures)
     (c .before .before .before .before .before .before .before .before .before .before .before .before .before .before .before .before .before .before .before .before .before .before .before .before .before .put-numbers .ensures) (c .before .before .before .before .before .before .before .before .before .before .before .before .before .before .before .before .before .before .before .before .put-waiting .ensures) (c .before .before .before .before .before .before .before .before .before .before .before .before .before .before .before .before .put-index .ensures) (c .before .before .before .before .before .before .before .before .before .before .before .put-rejected .ensures) (c .before .before .before .before .before .before .put-others .ensures) (c .before .before .put-slot .ensures)
 
 pub place-spec : {M : Type 1} → statement M
@@ -69,9 +64,7 @@ place-spec =
     tie.close
     (tie.spec
     index-in-requires
-    place-or-last-requires
     rejected-at-requires
-    place-or-last-requires-2
     others-at-requires
     numbers-in-requires
     placed-requires

@@ -13,7 +13,7 @@ returns : tie.Need-returns
 returns c = any-pushed _ _ _ _ _ (c .before .before .push .ensures)
 
 returns-2 : tie.Need-returns-2
-returns-2 c = any-spare _ _ _ _ _ (c .before .is-numbered .ensures) (c .if1 .left)
+returns-2 c = any-spare _ _ _ _ _ (c .before .before .pre) (c .before .is-numbered .ensures) (c .if1 .left)
 
 pub push-any-spec : {M : Type 1} → statement M
 push-any-spec = tie.close (tie.spec is-numbered-requires push-requires returns returns-2)

@@ -7,17 +7,17 @@ use Rattle.rows.proofs.index_of.Tie as tie
 array-read-t5 : tie.Need-array-read-t5
 array-read-t5 c = search needs
 
-array-read-t9 : tie.Need-array-read-t9
-array-read-t9 c = search needs
+array-read-t10 : tie.Need-array-read-t10
+array-read-t10 c = search needs
 
-array-read-t14 : tie.Need-array-read-t14
-array-read-t14 c = search needs
+array-read-t15 : tie.Need-array-read-t15
+array-read-t15 c = search needs
 
-array-read-t18 : tie.Need-array-read-t18
-array-read-t18 c = search needs
+array-read-t20 : tie.Need-array-read-t20
+array-read-t20 c = search needs
 
-array-read-t23 : tie.Need-array-read-t23
-array-read-t23 c = search needs
+array-read-t25 : tie.Need-array-read-t25
+array-read-t25 c = search needs
 
 returns : tie.Need-returns
 unfolding indexOf
@@ -26,4 +26,4 @@ returns c = refl
 pub index-of-spec : {M : Type 1} → statement M
 index-of-spec =
     tie.close
-    (tie.spec array-read-t5 array-read-t9 array-read-t14 array-read-t18 array-read-t23 returns)
+    (tie.spec array-read-t5 array-read-t10 array-read-t15 array-read-t20 array-read-t25 returns)
