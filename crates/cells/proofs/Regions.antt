@@ -174,7 +174,7 @@ unfolding put
 word-here w b x h = ap (λ (n : ℕ). getD (set w n x) b 0) (add-zero b) ∙ getD-set-same w b x 0 h
 
 -- the first word of a part stored
-part-first : (w : List ℕ) (b x m : ℕ) → 0 < m → b < length w → part (put w b (x ∷ [])) b m ≡ set (part w b m) 0 x
+pub part-first : (w : List ℕ) (b x m : ℕ) → 0 < m → b < length w → part (put w b (x ∷ [])) b m ≡ set (part w b m) 0 x
 unfolding part
 part-first w b x zero h r = absurd (not-suc-le-zero h)
 part-first w b x (suc m) h r =

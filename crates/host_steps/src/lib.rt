@@ -38,6 +38,7 @@ use decide_resume::search_after;
 use decide_tick::Begun;
 use decide_tick::opened;
 use decide_tick::opening_tick;
+use host_store::announce;
 use host_store::follow;
 use host_store::look_allowed;
 use host_store::look_due;
@@ -47,7 +48,7 @@ use host_store::look_hit;
 use host_store::look_place;
 use host_store::look_soonest;
 use host_store::look_sought;
-use host_store::record;
+use host_store::place;
 use host_store::refuse;
 use layout::capability_at;
 use layout::carrying_in;
@@ -66,6 +67,7 @@ use layout::put_entry;
 use layout::put_lease;
 use layout::put_numbers;
 use layout::put_pending;
+use layout::put_receipt;
 use layout::put_revoked;
 use layout::put_waiting;
 use layout::receipt_at;
@@ -254,7 +256,9 @@ fn grant(state: &mut [u64], time: u64) -> Answer
     );
     put_axis(state, request.resource);
     put_lease(state, request.resource as usize, lease);
-    record(state, false, AfterRecord::Lease, receipt);
+    let slot = place(state, false);
+    announce(state, slot, AfterRecord::Lease);
+    put_receipt(state, slot, receipt);
     Answer::Item
 }
 
@@ -320,7 +324,9 @@ fn lengthen(state: &mut [u64], axis: u8) -> Answer
         axis as usize,
         lengthened(held, change.expires_at, renewal.renewal),
     );
-    record(state, false, AfterRecord::Lease, receipt);
+    let slot = place(state, false);
+    announce(state, slot, AfterRecord::Lease);
+    put_receipt(state, slot, receipt);
     Answer::Item
 }
 
@@ -425,7 +431,9 @@ fn reject(state: &mut [u64], resource: u8, reason: Reason, original: u64) -> Ans
     let change = rejected(fixed, numbers, resource, reason, original, submission);
     let receipt = change.receipt;
     put_numbers(state, counted(numbers, change.invalid_count));
-    record(state, true, AfterRecord::Rejected, receipt);
+    let slot = place(state, true);
+    announce(state, slot, AfterRecord::Rejected);
+    put_receipt(state, slot, receipt);
     Answer::Item
 }
 
@@ -573,7 +581,9 @@ fn fail(state: &mut [u64], reason: Reason, progress: Progress) -> Answer
     let capability = capability_at(state, carrying.at);
     let submission = submission_in(state);
     let receipt = failed(fixed, numbers, capability, submission, reason, progress);
-    record(state, false, AfterRecord::Failed, receipt);
+    let slot = place(state, false);
+    announce(state, slot, AfterRecord::Failed);
+    put_receipt(state, slot, receipt);
     Answer::Item
 }
 
@@ -601,7 +611,9 @@ fn complete(state: &mut [u64], seen: Observation) -> Answer
     let receipt = change.receipt;
     put_numbers(state, completing(numbers, change.soonest));
     put_active(state, axis_or_spare(capability.resource), active);
-    record(state, false, AfterRecord::Executed, receipt);
+    let slot = place(state, false);
+    announce(state, slot, AfterRecord::Executed);
+    put_receipt(state, slot, receipt);
     Answer::Item
 }
 
@@ -623,7 +635,9 @@ fn tell(state: &mut [u64], ok: bool) -> Answer
             ok: ok,
         },
     );
-    record(state, false, AfterRecord::Fallback, receipt);
+    let slot = place(state, false);
+    announce(state, slot, AfterRecord::Fallback);
+    put_receipt(state, slot, receipt);
     Answer::Item
 }
 

@@ -14,6 +14,7 @@ use Rattle.receipts.specs.declared.Index.{Index}
 use Rattle.receipts.specs.declared.Pushed.{Pushed}
 use Rattle.rows.specs.Codes.{below}
 use Rattle.rows.proofs.Codes.{below-back}
+use Rattle.rules.specs.Receipts.{bump}
 use Rattle.rules.specs.Rules.{leaseId, leaseOwner}
 use Rattle.state.specs.State.{InBounds, leaseIn}
 use Rattle.state.specs.Stores.{numbersAfter, without, soonestWith}
@@ -28,12 +29,12 @@ use Rattle.state.specs.declared.Way.{Way}
 use Rattle.state.specs.declared.Way.the-variants.{Falls, Ends, GoesOn}
 use Rattle.runtime.specs.declared.Placement.{Placement}
 use Rattle.runtime.specs.declared.Runtime.{Runtime}
-use Rattle.runtime.specs.Kept.{emptied, idled, clears, waitsBy, followedAt, placedIn, PlacesAs, oldestRejected, oldestOther}
+use Rattle.runtime.specs.Kept.{emptied, idled, clears, waitsBy, followedAt, PlacesAs, oldestRejected, oldestOther}
 use Rattle.runtime.specs.Promises.{Kept}
-use Rattle.layout.specs.Fields.{withWaiting, withNumbers, withSlot, withWhy, withFalling, withRevoked, withLeases, withActive, withSlots, withIndex, withRejected, withOthers}
+use Rattle.layout.specs.Fields.{withWaiting, withNumbers, withSlot, withWhy, withFalling, withRevoked, withLeases, withActive, withSlots, withIndex, withRejected, withOthers, receiptsTo}
 use Rattle.layout.specs.Layout.{runtimeIn, Becomes}
 use Rattle.host_store.specs.Pushes.{AnyPush, PlacesAny}
-use Rattle.host_store.specs.Stores.{nextReceipt, Places, RecordsIn, Follows}
+use Rattle.host_store.specs.Stores.{notedIn, announcedIn, Places, RecordsIn, Follows}
 use Rattle.layout.proofs.Chains.{same-then, becomes-then}
 
 -- a placement ------------------------------------------------------------------------------------------------------------
@@ -59,12 +60,6 @@ module _ {i : Index} {k : Bool} {a b : ℕ} (p : Pushed) (m : AnyPush i k a b p)
         places = λ n. record { pushed = p; pushes = m .pushes n; index = refl; slot = refl; rejected = rw e; others = rw e };
       }
 
--- what is stored for a slot
-placing-of : (p : Placement) (after : AfterRecord) (h : Runtime) (next : Numbers) (waits : Waiting) (slot : ℕ)
-    → next ≡ nextReceipt (h .numbers) → waits ≡ record { awaited = Awaited.Record; «after_record» = after } → slot ≡ p .slot
-    → withSlot slot (withOthers (set (h .places .others) (p .«others_at») (p .slot)) (withRejected (set (h .places .rejected) (p .«rejected_at») (p .slot)) (withIndex (p .index) (withWaiting waits (withNumbers next h))))) ≡ placedIn p after h
-placing-of p after h next waits slot n v s = rw (n, v, s)
-
 module _ (h : Runtime) {k : Bool} {i : Index} {a b : ℕ} (p : Placement) (kept : Kept h) (m : PlacesAny i k a b p) where
   places-in : i ≡ h .places .index → a ≡ getD (h .places .rejected) (i .rejected .head) 0 → b ≡ getD (h .places .others) (i .others .head) 0
       → PlacesAs (h .places .index) k (oldestRejected h) (oldestOther h) p
@@ -73,37 +68,54 @@ module _ (h : Runtime) {k : Bool} {i : Index} {a b : ℕ} (p : Placement) (kept 
       let g : b ≡ oldestOther h = (rw e at b-is) in
       (rw (e, f, g) at m) .places (kept .placed .receipts .numbered)
 
-pub places : {w w₁ w₂ w₃ w₄ w₅ w′ : List ℕ} {k : Bool} {after : AfterRecord} {i : Index} {a b : ℕ} {numbers next : Numbers} {waits : Waiting} (p : Placement)
+pub places : {w w₁ w₂ w′ : List ℕ} {k : Bool} {i : Index} {a b : ℕ} (p : Placement)
     → i ≡ runtimeIn w .places .index → a ≡ getD (runtimeIn w .places .rejected) (i .rejected .head) 0
     → b ≡ getD (runtimeIn w .places .others) (i .others .head) 0 → PlacesAny i k a b p
-    → numbers ≡ runtimeIn w .numbers → next ≡ nextReceipt numbers → waits ≡ record { awaited = Awaited.Record; «after_record» = after }
-    → Becomes w w₁ (withNumbers next (runtimeIn w)) → Becomes w₁ w₂ (withWaiting waits (runtimeIn w₁)) → Becomes w₂ w₃ (withIndex (p .index) (runtimeIn w₂))
-    → Becomes w₃ w₄ (withRejected (set (runtimeIn w₃ .places .rejected) (p .«rejected_at») (p .slot)) (runtimeIn w₃))
-    → Becomes w₄ w₅ (withOthers (set (runtimeIn w₄ .places .others) (p .«others_at») (p .slot)) (runtimeIn w₄))
-    → Becomes w₅ w′ (withSlot (below 65 (p .slot)) (runtimeIn w₅)) → Places k after w w′ (p .slot)
-places {w = w} {after = after} {waits = waits} p i-is a-is b-is m numbers-is next-is waits-is s₁ s₂ s₃ s₄ s₅ s₆ =
+    → Becomes w w₁ (withIndex (p .index) (runtimeIn w))
+    → Becomes w₁ w₂ (withRejected (set (runtimeIn w₁ .places .rejected) (p .«rejected_at») (p .slot)) (runtimeIn w₁))
+    → Becomes w₂ w′ (withOthers (set (runtimeIn w₂ .places .others) (p .«others_at») (p .slot)) (runtimeIn w₂)) → Places k w w′ (p .slot)
+places {w = w} p i-is a-is b-is m s₁ s₂ s₃ =
     let all =
-    becomes-then (withSlot (below 65 (p .slot)))
-    (becomes-then (λ (h : Runtime). withOthers (set (h .places .others) (p .«others_at») (p .slot)) h)
-    (becomes-then (λ (h : Runtime). withRejected (set (h .places .rejected) (p .«rejected_at») (p .slot)) h)
-    (becomes-then (withIndex (p .index)) (becomes-then (withWaiting waits) s₁ s₂) s₃) s₄) s₅) s₆
+    becomes-then (λ (h : Runtime). withOthers (set (h .places .others) (p .«others_at») (p .slot)) h)
+    (becomes-then (λ (h : Runtime). withRejected (set (h .places .rejected) (p .«rejected_at») (p .slot)) h) s₁ s₂) s₃
     in
     record {
       same = all .same;
       inside = m .slot;
-      places = λ kept.
-          record {
-            placement = p;
-            places = places-in (runtimeIn w) p kept m i-is a-is b-is;
-            stored = all .stored ∙ placing-of p after (runtimeIn w) _ _ _ (next-is ∙ ap nextReceipt numbers-is) waits-is (below-back 65 (p .slot) (m .slot));
-            slot = refl;
-            inside = m .slot;
-          };
+      placement = p;
+      taken = refl;
+      noted = all .stored;
+      places = λ kept. places-in (runtimeIn w) p kept m i-is a-is b-is;
     }
 
-pub recorded : {w w₁ w′ : List ℕ} {k : Bool} {after : AfterRecord} {r : Receipt} (slot : ℕ) → Places k after w w₁ slot
-    → Becomes w₁ w′ (withSlots (set (runtimeIn w₁ .slots) slot r) (runtimeIn w₁)) → RecordsIn k after r w w′
-recorded {w₁ = w₁} slot p s = record { same = same-then (p .same) (s .same); between = runtimeIn w₁; slot = slot; places = p .places; filled = s .stored }
+pub announces : {w w₁ w₂ w′ : List ℕ} {after : AfterRecord} {numbers : Numbers} {next : ℕ} {waits : Waiting} (slot : ℕ) → slot < 65
+    → numbers ≡ runtimeIn w .numbers → next ≡ bump (numbers .«next_receipt») → waits ≡ record { awaited = Awaited.Record; «after_record» = after }
+    → Becomes w w₁ (withNumbers (receiptsTo next (runtimeIn w .numbers)) (runtimeIn w)) → Becomes w₁ w₂ (withWaiting waits (runtimeIn w₁))
+    → Becomes w₂ w′ (withSlot (below 65 slot) (runtimeIn w₂)) → Becomes w w′ (announcedIn after slot (runtimeIn w))
+announces {waits = waits} slot h n x v s₁ s₂ s₃ =
+    rw (below-back 65 slot h, v) at (becomes-then (withSlot (below 65 slot)) (becomes-then (withWaiting waits) (rw (x, n) at s₁) s₂) s₃)
+
+-- a slot taken, announced and filled is a receipt recorded
+pub recorded : {w w₁ w₂ w′ : List ℕ} {k : Bool} {after : AfterRecord} {r : Receipt} (slot : ℕ) → Places k w w₁ slot
+    → Becomes w₁ w₂ (announcedIn after slot (runtimeIn w₁)) → Becomes w₂ w′ (withSlots (set (runtimeIn w₂ .slots) slot r) (runtimeIn w₂)) → RecordsIn k after r w w′
+recorded {w = w} {w₂ = w₂} {after = after} slot p a s =
+    record {
+      same = same-then (p .same) (same-then (a .same) (s .same));
+      between = runtimeIn w₂;
+      slot = slot;
+      places = λ kept.
+          record {
+            placement = p .placement;
+            places = p .places kept;
+            stored =
+                a .stored
+                ∙ ap (announcedIn after slot) (p .noted)
+                ∙ ap (λ (n : ℕ). announcedIn after n (notedIn (p .placement) (runtimeIn w))) (p .taken);
+            slot = p .taken;
+            inside = p .inside;
+          };
+      filled = s .stored;
+    }
 
 -- a course ---------------------------------------------------------------------------------------------------------------
 

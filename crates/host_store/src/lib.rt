@@ -21,10 +21,10 @@ use layout::numbers_in;
 use layout::others_at;
 use layout::put_falling;
 use layout::put_index;
+use layout::put_next_receipt;
 use layout::put_numbers;
 use layout::put_others;
 use layout::put_reason;
-use layout::put_receipt;
 use layout::put_rejected;
 use layout::put_revoked;
 use layout::put_slot;
@@ -33,7 +33,6 @@ use layout::rejected_at;
 use layout::revoked_in;
 use model::LeaseSlot;
 use model::Reason;
-use model::Receipt;
 use receipts::Index;
 use receipts::Pushed;
 use receipts::push;
@@ -76,11 +75,11 @@ ghost use Rattle.state.specs.Stores.{numbersAfter, soonestWith};
 ghost use Rattle.decide_resume.specs.Searches.{ShowsSought};
 ghost use Rattle.runtime.specs.Promises.{Good, SoonestIn, FoundIn, EntryIn, HitIn};
 ghost use Rattle.runtime.specs.Runtimes.{tablesIn, bookOn};
-ghost use Rattle.layout.specs.Layout.{Long, runtimeIn};
+ghost use Rattle.layout.specs.Layout.{Long, runtimeIn, Becomes};
 ghost use Rattle.layout.specs.Promises.{Goes};
 ghost use Rattle.host_store.specs.Looks.{dueAt, forbiddenAt, heldAt};
 ghost use Rattle.host_store.specs.Pushes.{Tells, AnyPush, PlacesAny};
-ghost use Rattle.host_store.specs.Stores.{nextReceipt, Places, RecordsIn, Follows};
+ghost use Rattle.host_store.specs.Stores.{announcedIn, Places, Follows};
 
 // look -----------------------------------------------------------------------------------------------------------------
 fn is_due_at(state: &[u64], axis: u8, time: u64) -> bool
@@ -317,43 +316,33 @@ fn placed(index: Index, oldest_rejected: u8, oldest_other: u8, rejection: bool) 
     }
 }
 
-fn with_next(numbers: Numbers) -> Numbers
-    ensures { λ r. ⌜ r ≡ nextReceipt numbers ⌝ }
-{
-    let mut next = numbers;
-    next.next_receipt = bump_counter(numbers.next_receipt);
-    next
-}
-
-// A slot for the next receipt, which is to be recorded.
-fn place(state: &mut [u64], rejection: bool, after: AfterRecord) -> usize
+// A slot for one more receipt, noted in its circle.
+pub fn place(state: &mut [u64], rejection: bool) -> usize
     requires { ⌜ Long (now state) ⌝ }
-    ensures { λ r. ⌜ Places rejection after (now (state .entry)) (now (state .exit)) r ⌝ }
+    ensures { λ r. ⌜ Places rejection (now (state .entry)) (now (state .exit)) r ⌝ }
 {
     let index = index_in(state);
     let rejected = index.rejected;
     let others = index.others;
     let oldest_rejected = rejected_at(state, rejected.head);
     let oldest_other = others_at(state, others.head);
-    let numbers = numbers_in(state);
     let change = placed(index, oldest_rejected, oldest_other, rejection);
     let next = change.index;
-    put_numbers(state, with_next(numbers));
-    put_waiting(state, recording(after));
     put_index(state, next);
     put_rejected(state, change.rejected_at, change.slot as u8);
     put_others(state, change.others_at, change.slot as u8);
-    put_slot(state, change.slot);
     change.slot
 }
 
-// The receipt of a call or a reply, which is to be recorded.
-pub fn record(state: &mut [u64], rejection: bool, after: AfterRecord, receipt: Receipt)
-    requires { ⌜ Long (now state) ⌝ }
-    ensures { λ _. ⌜ RecordsIn rejection after receipt (now (state .entry)) (now (state .exit)) ⌝ }
+// The receipt in this slot is in hand, has the next number, and is to be recorded.
+pub fn announce(state: &mut [u64], slot: usize, after: AfterRecord)
+    requires { ⌜ Long (now state) × (slot < 65) ⌝ }
+    ensures { λ _. ⌜ Becomes (now (state .entry)) (now (state .exit)) (announcedIn after slot (runtimeIn (now (state .entry)))) ⌝ }
 {
-    let slot = place(state, rejection, after);
-    put_receipt(state, slot, receipt);
+    let numbers = numbers_in(state);
+    put_next_receipt(state, bump_counter(numbers.next_receipt));
+    put_waiting(state, recording(after));
+    put_slot(state, slot);
 }
 
 fn numbers_after(course: Course, held: u8, numbers: Numbers) -> Numbers

@@ -35,7 +35,7 @@ use Rattle.rows.specs.Rows.{waitingOf, waitingWords, fallingOf, fallingWords, r
 use Rattle.rows.proofs.Codes.{reason-back}
 use Rattle.runtime.specs.declared.Runtime.{Runtime}
 use Rattle.runtime.specs.Kept.{emptied, idled}
-use Rattle.layout.specs.Fields.{withStarting, withWaiting, withNumbers, withCursor, withSlot, withAxis, withWhy, withFalling, withRevoked, withCarrying, withPending, withFixed, withIndex, withRejected, withOthers, withLeases, withActive, withCapabilities, withReplay, withSubmission, withRequest, withRenewal, withSubmitted, withSlots}
+use Rattle.layout.specs.Fields.{withStarting, withWaiting, withNumbers, withCursor, withSlot, withAxis, withWhy, withFalling, withRevoked, withCarrying, withPending, withFixed, withIndex, withRejected, withOthers, withLeases, withActive, withCapabilities, withReplay, withSubmission, withRequest, withRenewal, withSubmitted, withSlots, receiptsTo}
 use Rattle.layout.specs.Layout.{Long, runtimeIn, listingIn, Same, Becomes}
 use Rattle.layout.proofs.Stored as Stored
 
@@ -148,6 +148,10 @@ module _ {w w′ ws : List ℕ} where
 
 module _ (w : List ℕ) (x : ℕ) where
   -- a store is a run of one
+  pub next-becomes : Long w → Becomes w (set w 3 x) (withNumbers (receiptsTo x (runtimeIn w .numbers)) (runtimeIn w))
+  unfolding put
+  next-becomes long = put-becomes w (set w 3 x) (x ∷ []) 3 _ (omega arith) (omega arith) refl (Stored.stored-next w x long)
+
   pub cursor-becomes : Long w → Becomes w (set w 14 x) (withCursor (below 32 x) (runtimeIn w))
   unfolding put
   cursor-becomes long = put-becomes w (set w 14 x) (x ∷ []) 14 _ (omega arith) (omega arith) refl (Stored.stored-cursor w x long)

@@ -6,12 +6,12 @@ use native.Mathlib.Omega.{arith}
 use lib.ListN.{length, getD, set}
 use Rattle.model.specs.Records.{noLease, noActive}
 use Rattle.cells.specs.Cells.{part, put, table}
-use Rattle.cells.proofs.Regions.{length-put, part-here, word-here, getD-table, table-put, table-word, part-beside, word-beside, table-beside}
+use Rattle.cells.proofs.Regions.{length-put, part-here, word-here, part-first, getD-table, table-put, table-word, part-beside, word-beside, table-beside}
 use Rattle.format.specs.Decode.{capabilityOf, requestOf, renewalOf, submissionOf}
 use Rattle.rows.specs.Codes.{below, reasonOf}
 use Rattle.rows.specs.Rows.{waitingOf, fallingOf, revokedOf, carryingOf, pendingOf, startingOf, numbersOf, fixedOf, leaseSlotOf, activeSlotOf, replaySlotOf, receiptOf, indexOf}
 use Rattle.runtime.specs.Kept.{emptied, idled}
-use Rattle.layout.specs.Fields.{withStarting, withWaiting, withNumbers, withCursor, withSlot, withAxis, withWhy, withFalling, withRevoked, withCarrying, withPending, withFixed, withIndex, withRejected, withOthers, withLeases, withActive, withCapabilities, withReplay, withSubmission, withRequest, withRenewal, withSubmitted, withSlots}
+use Rattle.layout.specs.Fields.{withStarting, withWaiting, withNumbers, withCursor, withSlot, withAxis, withWhy, withFalling, withRevoked, withCarrying, withPending, withFixed, withIndex, withRejected, withOthers, withLeases, withActive, withCapabilities, withReplay, withSubmission, withRequest, withRenewal, withSubmitted, withSlots, receiptsTo}
 use Rattle.layout.specs.Layout.{Long, slotNumberOf, runtimeIn}
 
 -- fields of their own ----------------------------------------------------------------------------------------------------
@@ -110,7 +110,18 @@ module _ (w : List ℕ) (xs : List ℕ) (long : Long w) where
 
 -- numbers of one word ----------------------------------------------------------------------------------------------------
 
+next-read : (w : List ℕ) (x : ℕ) → numbersOf (set (part w 3 11) 0 x) ≡ receiptsTo x (numbersOf (part w 3 11))
+unfolding numbersOf part
+next-read w x = refl
+
 module _ (w : List ℕ) (x : ℕ) (long : Long w) where
+  pub stored-next : runtimeIn (put w 3 (x ∷ [])) ≡ withNumbers (receiptsTo x (runtimeIn w .numbers)) (runtimeIn w)
+  unfolding runtimeIn
+  stored-next =
+      let low : 3 ≤ 3 = omega arith in
+      let high : 3 + 1 ≤ 3 + 11 = omega arith in
+      simp (part-first w 3 x 11 (omega arith) (omega (arith, long)), next-read w x, part-beside w 3 (x ∷ []) 3 11 low high, word-beside w 3 (x ∷ []) 3 11 low high, table-beside w 3 (x ∷ []) 3 11 low high)
+
   pub stored-cursor : runtimeIn (put w 14 (x ∷ [])) ≡ withCursor (below 32 x) (runtimeIn w)
   unfolding runtimeIn
   stored-cursor =

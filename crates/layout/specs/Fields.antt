@@ -61,6 +61,23 @@ abbrev pub withNumbers : Numbers → Runtime → Runtime
 withNumbers x h =
     built (h .starting) (h .waiting) x (h .cursor) (h .slot) (h .axis) (h .why) (h .falling) (h .revoked) (h .carrying) (h .pending) (h .fixed) (h .places) (h .leases) (h .active) (h .capabilities) (h .replay) (h .submission) (h .request) (h .renewal) (h .submitted) (h .slots)
 
+-- the numbers with another one for the next receipt
+abbrev pub receiptsTo : ℕ → Numbers → Numbers
+receiptsTo x n =
+    record {
+      «next_receipt» = x;
+      «next_lease» = n .«next_lease»;
+      epoch = n .epoch;
+      «state_at» = n .«state_at»;
+      «last_tick» = n .«last_tick»;
+      flags = n .flags;
+      «estop_seen» = n .«estop_seen»;
+      «invalid_count» = n .«invalid_count»;
+      mode = n .mode;
+      held = n .held;
+      soonest = n .soonest;
+    }
+
 abbrev pub withCursor : ℕ → Runtime → Runtime
 withCursor x h =
     built (h .starting) (h .waiting) (h .numbers) x (h .slot) (h .axis) (h .why) (h .falling) (h .revoked) (h .carrying) (h .pending) (h .fixed) (h .places) (h .leases) (h .active) (h .capabilities) (h .replay) (h .submission) (h .request) (h .renewal) (h .submitted) (h .slots)

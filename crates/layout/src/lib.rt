@@ -68,7 +68,7 @@ ghost use Rattle.rows.specs.Codes.{below};
 ghost use Rattle.rows.specs.Rows.{fallingOf, fallingWords, Headed};
 ghost use Rattle.runtime.specs.Kept.{emptied, idled};
 ghost use Rattle.state.specs.State.{InBounds};
-ghost use Rattle.layout.specs.Fields.{withStarting, withWaiting, withNumbers, withCursor, withSlot, withAxis, withWhy, withFalling, withRevoked, withCarrying, withPending, withFixed, withIndex, withRejected, withOthers, withLeases, withActive, withCapabilities, withReplay, withSubmission, withRequest, withRenewal, withSubmitted, withSlots};
+ghost use Rattle.layout.specs.Fields.{withStarting, withWaiting, withNumbers, withCursor, withSlot, withAxis, withWhy, withFalling, withRevoked, withCarrying, withPending, withFixed, withIndex, withRejected, withOthers, withLeases, withActive, withCapabilities, withReplay, withSubmission, withRequest, withRenewal, withSubmitted, withSlots, receiptsTo};
 ghost use Rattle.layout.specs.Layout.{Long, runtimeIn, listingIn, Becomes, Lists};
 
 // look -------------------------------------------------------------------------------------------------------------------
@@ -347,6 +347,13 @@ pub fn put_falling(state: &mut [u64], falling: Falling)
 {
     let words = falling_words(falling);
     write(state, 18, &words);
+}
+
+pub fn put_next_receipt(state: &mut [u64], next_receipt: u64)
+    requires { ⌜ Long (now state) ⌝ }
+    ensures { λ _. ⌜ Becomes (now (state .entry)) (now (state .exit)) (withNumbers (receiptsTo «next_receipt» (runtimeIn (now (state .entry)) .numbers)) (runtimeIn (now (state .entry)))) ⌝ }
+{
+    state[3] = next_receipt;
 }
 
 pub fn put_cursor(state: &mut [u64], cursor: usize)

@@ -1,3 +1,4 @@
+use Rattle.host_store.proofs.Placing.{recorded}
 use Rattle.host_steps.proofs.Leases.{axis-fits, end-fits, unfit-grant, grant-goes}
 use Rattle.layout.proofs.Chains.{long-after}
 use borrow.Author.Tests.{not-true, not-false}
@@ -48,16 +49,21 @@ put-lease-requires : tie.Need-put-lease-requires
 put-lease-requires c κs =
     (long-after (long-after (c .before .before .before .before .before .before .before .before .before .before .before .before .before .before .before .before .before .before .before .before .before .before .before .before .pre) (c .before .before .before .before .before .before .before .before .put-numbers .ensures .same)) (c .before .before .before .before .put-axis .ensures .same), omega (arith, axis-fits (c .before .before .before .before .before .before .before .before .before .before .before .before .before .before .before .before .before .before .before .before .before .request-in .result .resource) (c .before .before .before .before .before .before .before .before .before .before .before .before .before .before .before .before .before .before .before .before .before .before .before .before .args .time) (c .before .before .before .before .before .before .before .before .before .before .before .before .before .before .before .before .before .before .before .before .before .request-in .result .«duration_ms») (c .before .before .before .before .before .before .before .before .before .before .before .before .before .before .before .before .fits2 .ensures) (not-false _ (c .before .before .before .before .before .before .before .before .before .before .before .before .before .before .before .if1 .left))))
 
-record-requires : tie.Need-record-requires
-record-requires c κs =
-    long-after (long-after (long-after (c .before .before .before .before .before .before .before .before .before .before .before .before .before .before .before .before .before .before .before .before .before .before .before .before .before .before .before .before .pre) (c .before .before .before .before .before .before .before .before .before .before .before .before .put-numbers .ensures .same)) (c .before .before .before .before .before .before .before .before .put-axis .ensures .same)) (c .before .before .before .put-lease .ensures .same)
+place-requires : tie.Need-place-requires
+place-requires c κs = long-after (long-after (long-after (c .before .before .before .before .before .before .before .before .before .before .before .before .before .before .before .before .before .before .before .before .before .before .before .before .before .before .before .before .pre) (c .before .before .before .before .before .before .before .before .before .before .before .before .put-numbers .ensures .same)) (c .before .before .before .before .before .before .before .before .put-axis .ensures .same)) (c .before .before .before .put-lease .ensures .same)
+
+announce-requires : tie.Need-announce-requires
+announce-requires c κs = (long-after (long-after (long-after (long-after (c .before .before .before .before .before .before .before .before .before .before .before .before .before .before .before .before .before .before .before .before .before .before .before .before .before .before .before .before .before .before .before .before .pre) (c .before .before .before .before .before .before .before .before .before .before .before .before .before .before .before .before .put-numbers .ensures .same)) (c .before .before .before .before .before .before .before .before .before .before .before .before .put-axis .ensures .same)) (c .before .before .before .before .before .before .before .put-lease .ensures .same)) (c .before .before .before .place .ensures .same), c .before .before .before .place .ensures .inside)
+
+put-receipt-requires : tie.Need-put-receipt-requires
+put-receipt-requires c κs = (long-after (long-after (long-after (long-after (long-after (c .before .before .before .before .before .before .before .before .before .before .before .before .before .before .before .before .before .before .before .before .before .before .before .before .before .before .before .before .before .before .before .before .before .before .before .before .pre) (c .before .before .before .before .before .before .before .before .before .before .before .before .before .before .before .before .before .before .before .before .put-numbers .ensures .same)) (c .before .before .before .before .before .before .before .before .before .before .before .before .before .before .before .before .put-axis .ensures .same)) (c .before .before .before .before .before .before .before .before .before .before .before .put-lease .ensures .same)) (c .before .before .before .before .before .before .before .place .ensures .same)) (c .before .before .before .announce .ensures .same), c .before .before .before .before .before .before .before .place .ensures .inside)
 
 same-length-2 : tie.Need-same-length-2
-same-length-2 c = search needs
+same-length-2 c = omega (arith, c .before .before .before .before .before .before .before .before .before .before .before .before .before .before .before .before .before .before .before .before .before .before .before .put-numbers .ensures .same .long, c .before .before .before .before .before .before .before .before .before .before .before .before .before .before .before .before .before .before .before .put-axis .ensures .same .long, c .before .before .before .before .before .before .before .before .before .before .before .before .before .before .put-lease .ensures .same .long, c .before .before .before .before .before .before .before .before .before .before .place .ensures .same .long, c .before .before .before .before .before .before .announce .ensures .same .long, c .before .before .put-receipt .ensures .same .long)
 
 returns-2 : tie.Need-returns-2
 returns-2 c =
-    grant-goes (c .before .before .before .before .before .before .before .before .before .before .before .before .before .before .before .before .before .before .before .before .before .before .before .before .before .before .before .before .before .before .before .args .time) (c .before .before .before .before .before .before .before .before .before .before .before .before .before .before .before .before .before .before .before .before .before .granted .result) (c .before .before .before .before .before .before .before .before .before .before .before .before .before .before .before .before .before .before .before .before .before .before .before .before .before .before .before .before .request-in .ensures) (c .before .before .before .before .before .before .before .before .before .before .before .before .before .before .before .before .before .before .before .before .before .before .before .before .before .before .fixed-in .ensures) (c .before .before .before .before .before .before .before .before .before .before .before .before .before .before .before .before .before .before .before .before .before .before .before .before .numbers-in .ensures) (c .before .before .before .before .before .before .before .before .before .before .before .before .before .before .before .before .before .before .before .before .before .granted .ensures) _ (c .before .before .before .before .before .before .before .before .before .before .before .before .before .before .before .before .numbers-with .ensures) (c .before .before .before .before .before .before .before .before .before .before .before .before .before .before .before .put-numbers .ensures) (c .before .before .before .before .before .before .before .before .before .before .before .put-axis .ensures) (c .before .before .before .before .before .before .put-lease .ensures) (c .before .before .«record» .ensures)
+    grant-goes (c .before .before .before .before .before .before .before .before .before .before .before .before .before .before .before .before .before .before .before .before .before .before .before .before .before .before .before .before .before .before .before .before .before .before .before .before .before .before .before .args .time) (c .before .before .before .before .before .before .before .before .before .before .before .before .before .before .before .before .before .before .before .before .before .before .before .before .before .before .before .before .before .granted .result) (c .before .before .before .before .before .before .before .before .before .before .before .before .before .before .before .before .before .before .before .before .before .before .before .before .before .before .before .before .before .before .before .before .before .before .before .before .request-in .ensures) (c .before .before .before .before .before .before .before .before .before .before .before .before .before .before .before .before .before .before .before .before .before .before .before .before .before .before .before .before .before .before .before .before .before .before .fixed-in .ensures) (c .before .before .before .before .before .before .before .before .before .before .before .before .before .before .before .before .before .before .before .before .before .before .before .before .before .before .before .before .before .before .before .before .numbers-in .ensures) (c .before .before .before .before .before .before .before .before .before .before .before .before .before .before .before .before .before .before .before .before .before .before .before .before .before .before .before .before .before .granted .ensures) _ (c .before .before .before .before .before .before .before .before .before .before .before .before .before .before .before .before .before .before .before .before .before .before .before .before .numbers-with .ensures) (c .before .before .before .before .before .before .before .before .before .before .before .before .before .before .before .before .before .before .before .before .before .before .before .put-numbers .ensures) (c .before .before .before .before .before .before .before .before .before .before .before .before .before .before .before .before .before .before .before .put-axis .ensures) (c .before .before .before .before .before .before .before .before .before .before .before .before .before .before .put-lease .ensures) (recorded _ (c .before .before .before .before .before .before .before .before .before .before .place .ensures) (c .before .before .before .before .before .before .announce .ensures) (c .before .before .put-receipt .ensures))
 
 pub grant-spec : {M : Type 1} → statement M
 grant-spec =
@@ -76,6 +82,8 @@ grant-spec =
     put-axis-requires
     cast-put-lease
     put-lease-requires
-    record-requires
+    place-requires
+    announce-requires
+    put-receipt-requires
     same-length-2
     returns-2)

@@ -1,3 +1,5 @@
+use Rattle.host_store.proofs.Placing.{recorded}
+use native.Mathlib.Omega.{arith}
 use Rattle.host_steps.proofs.Leases.{axis-fits, end-fits, unfit-renewal, lengthen-goes}
 use Rattle.layout.proofs.Chains.{long-after}
 use borrow.Author.Tests.{not-true, not-false}
@@ -50,16 +52,21 @@ put-lease-requires : tie.Need-put-lease-requires
 put-lease-requires c κs =
     (long-after (long-after (c .before .before .before .before .before .before .before .before .before .before .before .before .before .before .before .before .before .before .before .before .before .before .before .before .before .pre .0) (c .before .before .before .before .before .before .before .before .put-numbers .ensures .same)) (c .before .before .before .before .put-axis .ensures .same), c .before .before .before .before .before .before .before .before .before .before .before .before .before .before .before .before .before .before .before .before .before .before .before .before .before .pre .1)
 
-record-requires : tie.Need-record-requires
-record-requires c κs =
-    long-after (long-after (long-after (c .before .before .before .before .before .before .before .before .before .before .before .before .before .before .before .before .before .before .before .before .before .before .before .before .before .before .before .before .before .pre .0) (c .before .before .before .before .before .before .before .before .before .before .before .before .put-numbers .ensures .same)) (c .before .before .before .before .before .before .before .before .put-axis .ensures .same)) (c .before .before .before .put-lease .ensures .same)
+place-requires : tie.Need-place-requires
+place-requires c κs = long-after (long-after (long-after (c .before .before .before .before .before .before .before .before .before .before .before .before .before .before .before .before .before .before .before .before .before .before .before .before .before .before .before .before .before .pre .0) (c .before .before .before .before .before .before .before .before .before .before .before .before .put-numbers .ensures .same)) (c .before .before .before .before .before .before .before .before .put-axis .ensures .same)) (c .before .before .before .put-lease .ensures .same)
+
+announce-requires : tie.Need-announce-requires
+announce-requires c κs = (long-after (long-after (long-after (long-after (c .before .before .before .before .before .before .before .before .before .before .before .before .before .before .before .before .before .before .before .before .before .before .before .before .before .before .before .before .before .before .before .before .before .pre .0) (c .before .before .before .before .before .before .before .before .before .before .before .before .before .before .before .before .put-numbers .ensures .same)) (c .before .before .before .before .before .before .before .before .before .before .before .before .put-axis .ensures .same)) (c .before .before .before .before .before .before .before .put-lease .ensures .same)) (c .before .before .before .place .ensures .same), c .before .before .before .place .ensures .inside)
+
+put-receipt-requires : tie.Need-put-receipt-requires
+put-receipt-requires c κs = (long-after (long-after (long-after (long-after (long-after (c .before .before .before .before .before .before .before .before .before .before .before .before .before .before .before .before .before .before .before .before .before .before .before .before .before .before .before .before .before .before .before .before .before .before .before .before .before .pre .0) (c .before .before .before .before .before .before .before .before .before .before .before .before .before .before .before .before .before .before .before .before .put-numbers .ensures .same)) (c .before .before .before .before .before .before .before .before .before .before .before .before .before .before .before .before .put-axis .ensures .same)) (c .before .before .before .before .before .before .before .before .before .before .before .put-lease .ensures .same)) (c .before .before .before .before .before .before .before .place .ensures .same)) (c .before .before .before .announce .ensures .same), c .before .before .before .before .before .before .before .place .ensures .inside)
 
 same-length-2 : tie.Need-same-length-2
-same-length-2 c = search needs
+same-length-2 c = omega (arith, c .before .before .before .before .before .before .before .before .before .before .before .before .before .before .before .before .before .before .before .before .before .before .before .put-numbers .ensures .same .long, c .before .before .before .before .before .before .before .before .before .before .before .before .before .before .before .before .before .before .before .put-axis .ensures .same .long, c .before .before .before .before .before .before .before .before .before .before .before .before .before .before .put-lease .ensures .same .long, c .before .before .before .before .before .before .before .before .before .before .place .ensures .same .long, c .before .before .before .before .before .before .announce .ensures .same .long, c .before .before .put-receipt .ensures .same .long)
 
 returns-2 : tie.Need-returns-2
 returns-2 c =
-    lengthen-goes (c .before .before .before .before .before .before .before .before .before .before .before .before .before .before .before .before .before .before .before .before .before .before .before .before .before .before .before .before .before .before .before .before .args .axis) (c .before .before .before .before .before .before .before .before .before .before .before .before .before .before .before .before .before .before .before .before .renewed .result) (c .before .before .before .before .before .before .before .before .before .before .before .before .before .before .before .before .before .before .before .before .before .before .before .before .before .before .before .before .before .renewal-in .ensures) (c .before .before .before .before .before .before .before .before .before .before .before .before .before .before .before .before .before .before .before .before .before .before .before .before .before .before .before .fixed-in .ensures) (c .before .before .before .before .before .before .before .before .before .before .before .before .before .before .before .before .before .before .before .before .before .before .before .before .before .numbers-in .ensures) (c .before .before .before .before .before .before .before .before .before .before .before .before .before .before .before .before .before .before .before .before .before .lease-at .ensures) (c .before .before .before .before .before .before .before .before .before .before .before .before .before .before .before .before .before .before .before .before .renewed .ensures) _ (c .before .before .before .before .before .before .before .before .before .before .before .before .before .before .before .before .numbers-with .ensures) (c .before .before .before .before .before .before .before .before .before .before .before .before .before .before .before .put-numbers .ensures) (c .before .before .before .before .before .before .before .before .before .before .before .put-axis .ensures) _ (c .before .before .before .before .before .before .before .lengthened .ensures) (c .before .before .before .before .before .before .put-lease .ensures) (c .before .before .«record» .ensures)
+    lengthen-goes (c .before .before .before .before .before .before .before .before .before .before .before .before .before .before .before .before .before .before .before .before .before .before .before .before .before .before .before .before .before .before .before .before .before .before .before .before .before .before .before .before .args .axis) (c .before .before .before .before .before .before .before .before .before .before .before .before .before .before .before .before .before .before .before .before .before .before .before .before .before .before .before .before .renewed .result) (c .before .before .before .before .before .before .before .before .before .before .before .before .before .before .before .before .before .before .before .before .before .before .before .before .before .before .before .before .before .before .before .before .before .before .before .before .before .renewal-in .ensures) (c .before .before .before .before .before .before .before .before .before .before .before .before .before .before .before .before .before .before .before .before .before .before .before .before .before .before .before .before .before .before .before .before .before .before .before .fixed-in .ensures) (c .before .before .before .before .before .before .before .before .before .before .before .before .before .before .before .before .before .before .before .before .before .before .before .before .before .before .before .before .before .before .before .before .before .numbers-in .ensures) (c .before .before .before .before .before .before .before .before .before .before .before .before .before .before .before .before .before .before .before .before .before .before .before .before .before .before .before .before .before .lease-at .ensures) (c .before .before .before .before .before .before .before .before .before .before .before .before .before .before .before .before .before .before .before .before .before .before .before .before .before .before .before .before .renewed .ensures) _ (c .before .before .before .before .before .before .before .before .before .before .before .before .before .before .before .before .before .before .before .before .before .before .before .before .numbers-with .ensures) (c .before .before .before .before .before .before .before .before .before .before .before .before .before .before .before .before .before .before .before .before .before .before .before .put-numbers .ensures) (c .before .before .before .before .before .before .before .before .before .before .before .before .before .before .before .before .before .before .before .put-axis .ensures) _ (c .before .before .before .before .before .before .before .before .before .before .before .before .before .before .before .lengthened .ensures) (c .before .before .before .before .before .before .before .before .before .before .before .before .before .before .put-lease .ensures) (recorded _ (c .before .before .before .before .before .before .before .before .before .before .place .ensures) (c .before .before .before .before .before .before .announce .ensures) (c .before .before .put-receipt .ensures))
 
 pub lengthen-spec : {M : Type 1} → statement M
 lengthen-spec =
@@ -79,6 +86,8 @@ lengthen-spec =
     put-axis-requires
     lengthened-requires
     put-lease-requires
-    record-requires
+    place-requires
+    announce-requires
+    put-receipt-requires
     same-length-2
     returns-2)

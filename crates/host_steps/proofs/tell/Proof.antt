@@ -1,3 +1,6 @@
+use Rattle.host_store.proofs.Placing.{recorded}
+use native.Mathlib.Omega.{arith}
+use Rattle.host_store.proofs.Chains.{long-after}
 use Rattle.host_steps.proofs.Replies.{tells-on}
 use borrow.Author.Needs.{needs}
 use Rattle.host_steps.proofs.tell.Statement.{statement}
@@ -21,15 +24,21 @@ told-requires c κs = search needs
 put-revoked-requires : tie.Need-put-revoked-requires
 put-revoked-requires c κs = search needs
 
-record-requires : tie.Need-record-requires
-record-requires c κs = search needs
+place-requires : tie.Need-place-requires
+place-requires c κs = long-after (c .before .before .before .before .before .before .before .before .before .before .before .before .before .before .before .pre) (c .before .before .before .put-revoked .ensures .same)
+
+announce-requires : tie.Need-announce-requires
+announce-requires c κs = (long-after (long-after (c .before .before .before .before .before .before .before .before .before .before .before .before .before .before .before .before .before .before .before .pre) (c .before .before .before .before .before .before .before .put-revoked .ensures .same)) (c .before .before .before .place .ensures .same), c .before .before .before .place .ensures .inside)
+
+put-receipt-requires : tie.Need-put-receipt-requires
+put-receipt-requires c κs = (long-after (long-after (long-after (c .before .before .before .before .before .before .before .before .before .before .before .before .before .before .before .before .before .before .before .before .before .before .before .pre) (c .before .before .before .before .before .before .before .before .before .before .before .put-revoked .ensures .same)) (c .before .before .before .before .before .before .before .place .ensures .same)) (c .before .before .before .announce .ensures .same), c .before .before .before .before .before .before .before .place .ensures .inside)
 
 same-length : tie.Need-same-length
-same-length c = search needs
+same-length c = omega (arith, c .before .before .before .before .before .before .before .before .before .before .before .before .before .before .put-revoked .ensures .same .long, c .before .before .before .before .before .before .before .before .before .before .place .ensures .same .long, c .before .before .before .before .before .before .announce .ensures .same .long, c .before .before .put-receipt .ensures .same .long)
 
 returns : tie.Need-returns
 returns c =
-    tells-on _ _ (c .before .before .before .before .before .before .before .before .before .before .before .before .before .before .before .fixed-in .ensures) (c .before .before .before .before .before .before .before .before .before .before .before .before .before .numbers-in .ensures) (c .before .before .before .before .before .before .before .before .before .before .before .falling-in .ensures) (c .before .before .before .before .before .before .before .before .before .revoked-in .ensures) (c .before .before .before .before .before .before .before .before .told .ensures) (c .before .before .before .before .before .before .put-revoked .ensures) (c .before .before .«record» .ensures)
+    tells-on _ _ (c .before .before .before .before .before .before .before .before .before .before .before .before .before .before .before .before .before .before .before .before .before .before .before .fixed-in .ensures) (c .before .before .before .before .before .before .before .before .before .before .before .before .before .before .before .before .before .before .before .before .before .numbers-in .ensures) (c .before .before .before .before .before .before .before .before .before .before .before .before .before .before .before .before .before .before .before .falling-in .ensures) (c .before .before .before .before .before .before .before .before .before .before .before .before .before .before .before .before .before .revoked-in .ensures) (c .before .before .before .before .before .before .before .before .before .before .before .before .before .before .before .before .told .ensures) (c .before .before .before .before .before .before .before .before .before .before .before .before .before .before .put-revoked .ensures) (recorded _ (c .before .before .before .before .before .before .before .before .before .before .place .ensures) (c .before .before .before .before .before .before .announce .ensures) (c .before .before .put-receipt .ensures))
 
 pub tell-spec : {M : Type 1} → statement M
 tell-spec =
@@ -41,6 +50,8 @@ tell-spec =
     revoked-in-requires
     told-requires
     put-revoked-requires
-    record-requires
+    place-requires
+    announce-requires
+    put-receipt-requires
     same-length
     returns)

@@ -15,49 +15,30 @@ rejected-at-requires c κs = (c .before .before .before .before .before .before 
 others-at-requires : tie.Need-others-at-requires
 others-at-requires c κs = (c .before .before .before .before .before .before .before .before .pre, omega (arith, index-headed _ (c .before .before .before .before .before .index-in .ensures) .1))
 
-numbers-in-requires : tie.Need-numbers-in-requires
-numbers-in-requires c κs = search needs
-
 placed-requires : tie.Need-placed-requires
-placed-requires c κs = index-headed _ (c .before .before .before .before .before .before .before .before .index-in .ensures)
-
-with-next-requires : tie.Need-with-next-requires
-with-next-requires c κs = search needs
-
-put-numbers-requires : tie.Need-put-numbers-requires
-put-numbers-requires c κs = c .before .before .before .before .before .before .before .before .before .before .before .before .before .before .before .pre
-
-recording-requires : tie.Need-recording-requires
-recording-requires c κs = search needs
-
-put-waiting-requires : tie.Need-put-waiting-requires
-put-waiting-requires c κs = long-after (c .before .before .before .before .before .before .before .before .before .before .before .before .before .before .before .before .before .before .before .before .pre) (c .before .before .before .before .put-numbers .ensures .same)
+placed-requires c κs = index-headed _ (c .before .before .before .before .before .before .index-in .ensures)
 
 put-index-requires : tie.Need-put-index-requires
-put-index-requires c κs = (long-after (long-after (c .before .before .before .before .before .before .before .before .before .before .before .before .before .before .before .before .before .before .before .before .before .before .before .before .pre) (c .before .before .before .before .before .before .before .before .put-numbers .ensures .same)) (c .before .before .before .put-waiting .ensures .same), c .before .before .before .before .before .before .before .before .before .before .before .before .placed .ensures .heads)
+put-index-requires c κs = (c .before .before .before .before .before .before .before .before .before .before .before .before .pre, c .before .before .placed .ensures .heads)
 
 cast-put-rejected : tie.Need-cast-put-rejected
-cast-put-rejected c = omega (arith, c .before .before .before .before .before .before .before .before .before .before .before .before .before .before .before .before .before .placed .ensures .slot)
+cast-put-rejected c = omega (arith, c .before .before .before .before .before .before .before .placed .ensures .slot)
 
 put-rejected-requires : tie.Need-put-rejected-requires
-put-rejected-requires c κs = (long-after (long-after (long-after (c .before .before .before .before .before .before .before .before .before .before .before .before .before .before .before .before .before .before .before .before .before .before .before .before .before .before .before .before .before .pre) (c .before .before .before .before .before .before .before .before .before .before .before .before .before .put-numbers .ensures .same)) (c .before .before .before .before .before .before .before .before .put-waiting .ensures .same)) (c .before .before .before .before .put-index .ensures .same), c .before .before .before .before .before .before .before .before .before .before .before .before .before .before .before .before .before .placed .ensures .rejected)
+put-rejected-requires c κs = (long-after (c .before .before .before .before .before .before .before .before .before .before .before .before .before .before .before .before .before .pre) (c .before .before .before .before .put-index .ensures .same), c .before .before .before .before .before .before .before .placed .ensures .rejected)
 
 cast-put-others : tie.Need-cast-put-others
-cast-put-others c = omega (arith, c .before .before .before .before .before .before .before .before .before .before .before .before .before .before .before .before .before .before .before .before .before .before .placed .ensures .slot)
+cast-put-others c = omega (arith, c .before .before .before .before .before .before .before .before .before .before .before .before .placed .ensures .slot)
 
 put-others-requires : tie.Need-put-others-requires
-put-others-requires c κs = (long-after (long-after (long-after (long-after (c .before .before .before .before .before .before .before .before .before .before .before .before .before .before .before .before .before .before .before .before .before .before .before .before .before .before .before .before .before .before .before .before .before .before .pre) (c .before .before .before .before .before .before .before .before .before .before .before .before .before .before .before .before .before .before .put-numbers .ensures .same)) (c .before .before .before .before .before .before .before .before .before .before .before .before .before .put-waiting .ensures .same)) (c .before .before .before .before .before .before .before .before .before .put-index .ensures .same)) (c .before .before .before .before .put-rejected .ensures .same), c .before .before .before .before .before .before .before .before .before .before .before .before .before .before .before .before .before .before .before .before .before .before .placed .ensures .others)
-
-put-slot-requires : tie.Need-put-slot-requires
-put-slot-requires c κs = long-after (long-after (long-after (long-after (long-after (c .before .before .before .before .before .before .before .before .before .before .before .before .before .before .before .before .before .before .before .before .before .before .before .before .before .before .before .before .before .before .before .before .before .before .before .before .before .before .pre) (c .before .before .before .before .before .before .before .before .before .before .before .before .before .before .before .before .before .before .before .before .before .before .put-numbers .ensures .same)) (c .before .before .before .before .before .before .before .before .before .before .before .before .before .before .before .before .before .put-waiting .ensures .same)) (c .before .before .before .before .before .before .before .before .before .before .before .before .before .put-index .ensures .same)) (c .before .before .before .before .before .before .before .before .put-rejected .ensures .same)) (c .before .before .before .put-others .ensures .same)
+put-others-requires c κs = (long-after (long-after (c .before .before .before .before .before .before .before .before .before .before .before .before .before .before .before .before .before .before .before .before .before .before .pre) (c .before .before .before .before .before .before .before .before .before .put-index .ensures .same)) (c .before .before .before .before .put-rejected .ensures .same), c .before .before .before .before .before .before .before .before .before .before .before .before .placed .ensures .others)
 
 same-length : tie.Need-same-length
-same-length c = omega (arith, c .before .before .before .before .before .before .before .before .before .before .before .before .before .before .before .before .before .before .before .before .before .before .before .before .before .put-numbers .ensures .same .long, c .before .before .before .before .before .before .before .before .before .before .before .before .before .before .before .before .before .before .before .before .put-waiting .ensures .same .long, c .before .before .before .before .before .before .before .before .before .before .before .before .before .before .before .before .put-index .ensures .same .long, c .before .before .before .before .before .before .before .before .before .before .before .put-rejected .ensures .same .long, c .before .before .before .before .before .before .put-others .ensures .same .long, c .before .before .put-slot .ensures .same .long)
+same-length c = omega (arith, c .before .before .before .before .before .before .before .before .before .before .before .before .put-index .ensures .same .long, c .before .before .before .before .before .before .before .put-rejected .ensures .same .long, c .before .before .put-others .ensures .same .long)
 
 returns : tie.Need-returns
 returns c =
-    places _ (c .before .before .before .before .before .before .before .before .before .before .before .before .before .before .before .before .before .before .before .before .before .before .before .before .before .before .before .before .before .before .before .before .before .before .before .before .before .before .index-in .ensures) (c .before .before .before .before .before .before .before .before .before .before .before .before .before .before .before .before .before .before .before .before .before .before .before .before .before .before .before .before .before .before .before .before .before .before .rejected-at .ensures) (c .before .before .before .before .before .before .before .before .before .before .before .before .before .before .before .before .before .before .before .before .before .before .before .before .before .before .before .before .before .before .before .before .others-at .ensures) (c .before .before .before .before .before .before .before .before .before .before .before .before .before .before .before .before .before .before .before .before .before .before .before .before .before .before .before .before .before .placed .ensures) (c .before .before .before .before .before .before .before .before .before .before .before .before .before .before .before .before .before .before .before .before .before .before .before .before .before .before .before .before .before .before .numbers-in .ensures) (c .before .before .before .before .before .before .before .before .before .before .before .before .before .before .before .before .before .before .before .before .before .before .before .before .before .before .with-next .ensures) (c .before .before .before .before .before .before .before .before .before .before .before .before .before .before .before .before .before .before .before .before .before .recording .ensures)
-    (c .before .before .before .before .before .before .before .before .before .before .before .before .before .before .before .before .before .before .before .before .before .before .before .before .before .put-numbers .ensures) (c .before .before .before .before .before .before .before .before .before .before .before .before .before .before .before .before .before .before .before .before .put-waiting .ensures) (c .before .before .before .before .before .before .before .before .before .before .before .before .before .before .before .before .put-index .ensures) (c .before .before .before .before .before .before .before .before .before .before .before .put-rejected .ensures) (c .before .before .before .before .before .before .put-others .ensures) (c .before .before .put-slot .ensures)
+    places _ (c .before .before .before .before .before .before .before .before .before .before .before .before .before .before .before .before .before .before .before .before .before .before .index-in .ensures) (c .before .before .before .before .before .before .before .before .before .before .before .before .before .before .before .before .before .before .rejected-at .ensures) (c .before .before .before .before .before .before .before .before .before .before .before .before .before .before .before .before .others-at .ensures) (c .before .before .before .before .before .before .before .before .before .before .before .before .before .before .before .placed .ensures) (c .before .before .before .before .before .before .before .before .before .before .before .before .put-index .ensures) (c .before .before .before .before .before .before .before .put-rejected .ensures) (c .before .before .put-others .ensures)
 
 pub place-spec : {M : Type 1} → statement M
 place-spec =
@@ -66,17 +47,11 @@ place-spec =
     index-in-requires
     rejected-at-requires
     others-at-requires
-    numbers-in-requires
     placed-requires
-    with-next-requires
-    put-numbers-requires
-    recording-requires
-    put-waiting-requires
     put-index-requires
     cast-put-rejected
     put-rejected-requires
     cast-put-others
     put-others-requires
-    put-slot-requires
     same-length
     returns)
