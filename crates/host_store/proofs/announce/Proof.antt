@@ -1,5 +1,5 @@
 use native.Mathlib.Omega.{arith}
-use Rattle.host_store.proofs.Chains.{long-after}
+use Rattle.layout.proofs.Chains.{long-after}
 use Rattle.host_store.proofs.Placing.{announces}
 use borrow.Author.Needs.{needs}
 use Rattle.host_store.proofs.announce.Statement.{statement}

@@ -1,0 +1,44 @@
+-- Where lent words stand between two records, and what a record leaves and is answered.
+use Prim.Native.Nat.{ℕ}
+use mathlib.Core.List.{List}
+use mathlib.Core.Path.{_≡_}
+use lib.ListN.{length, getD}
+use Rattle.model.specs.declared.Capability.{Capability}
+use Rattle.model.specs.declared.Presence.{Presence}
+use Rattle.model.specs.declared.Presence.the-variants.{Present}
+use Rattle.model.specs.declared.Receipt.{Receipt}
+use Rattle.rules.specs.Protocol.{Reading, Output, bookIn, shown}
+use Rattle.decide_read.specs.Shown.{capabilitySays, receiptSays}
+use Rattle.format.specs.Decode.{Record}
+use Rattle.format.specs.Encode.{encode}
+use Rattle.decide_start.specs.Starts.{Listing}
+use Rattle.runtime.specs.Stages.{phaseIn, RuntimeSound}
+use Rattle.layout.specs.Layout.{runtimeIn, listingIn}
+use Rattle.session.specs.Records.{Standing, RecordStep, step, answerWords}
+
+-- what is listed for the next start, and the phase of the life in hand
+pub record Stands (w : List ℕ) (x : Standing) : Type 0 where
+  pub listing : Listing (listingIn w) (x .listed)
+  pub phase : phaseIn (runtimeIn w) ≡ x .phase
+
+-- a reading in words
+abbrev pub ReadsAs : List ℕ → List ℕ → Reading → Type 0
+ReadsAs w r q = r ≡ encode (shown q (bookIn (phaseIn (runtimeIn w))))
+
+-- what a runtime shows of a capability and of a receipt
+abbrev pub capabilitySaid : Presence → Capability → Output
+capabilitySaid presence c = capabilitySays (record { runtime = Present; presence = presence; capability = c })
+
+abbrev pub receiptSaid : Presence → Receipt → Output
+receiptSaid presence r = receiptSays (record { runtime = Present; presence = presence; receipt = r })
+
+-- the answer to a record, and what is left
+pub record Answered (w′ r : List ℕ) (s : RecordStep) : Type 0 where
+  pub words : r ≡ answerWords (s .answer)
+  pub stands : Stands w′ (s .standing)
+  pub sound : RuntimeSound (runtimeIn w′)
+
+pub record Goes (w w′ r : List ℕ) (i : Record) : Type 0 where
+  pub first : getD w′ 0 0 ≡ getD w 0 0
+  pub long : length w′ ≡ length w
+  pub answers : RuntimeSound (runtimeIn w) → (x : Standing) → Stands w x → Answered w′ r (step x i)
