@@ -87,18 +87,21 @@ use runtime::entered;
 use runtime::is_begun;
 use runtime::is_going_on;
 use runtime::next_place;
+use state::AfterFallback;
 use state::AfterRecord;
 use state::AfterTrip;
 use state::Answer;
 use state::Awaited;
 use state::CallKind;
 use state::Carrying;
+use state::Falling;
 use state::Mode;
 use state::Numbers;
 use state::Pending;
 use state::Progress;
 use state::Revoked;
 use state::Waiting;
+use state::refreshed;
 use state::trips;
 ghost use Prim.Native.Nat.{_+_, _<_};
 ghost use mathlib.Core.Bool.{true, _&&_};
@@ -106,13 +109,13 @@ ghost use mathlib.Core.Option.{some, none};
 ghost use mathlib.Core.Path.{_≡_};
 ghost use lib.Dec.{leb, ltb};
 ghost use Rattle.rules.specs.Admission.{firstFailing, acquireChecks, renewChecks, heldAxis, orderCapability, admission, validate};
-ghost use Rattle.rules.specs.Interaction.{Done, Returned, Polled, Submitted};
+ghost use Rattle.rules.specs.Interaction.{Done, Returned, Polled, Submitted, Succeeded};
 ghost use Rattle.rules.specs.Protocol.{proceed, react, Replies, Observed as ObservedReply, Executed as ExecutedReply, FellBack as FellBackReply, Recorded as RecordedReply};
 ghost use Rattle.rules.specs.Receipts.{top, axisOr255};
-ghost use Rattle.rules.specs.Rules.{trip as tripRule, tick as tickRule, sense as senseRule, emergencyStop, recover, grant as grantRule, renewed as renewedRule, canceled as canceledRule, original as originalRule, reject as rejectRule, admit as admitRule, fail as failRule, complete as completeRule};
+ghost use Rattle.rules.specs.Rules.{trip as tripRule, tick as tickRule, sense as senseRule, emergencyStop, recover, grant as grantRule, renewed as renewedRule, canceled as canceledRule, original as originalRule, reject as rejectRule, admit as admitRule, fail as failRule, complete as completeRule, refreshState};
 ghost use Rattle.rules.specs.With.{withEstopSeen};
 ghost use Rattle.state.specs.Axes.{firstHeld};
-ghost use Rattle.state.specs.State.{progressOf, afterTick, afterFallback, afterFellBack, phaseOf};
+ghost use Rattle.state.specs.State.{progressOf, afterTick, tickEnd, afterFallback, afterFellBack, phaseOf};
 ghost use Rattle.state.specs.declared.Answer.the-variants.{Item};
 ghost use Rattle.state.specs.declared.Awaited.the-variants.{ObserveAfter};
 ghost use Rattle.decide_flags.specs.Flags.{stamped as stampedWith};
@@ -124,7 +127,7 @@ ghost use Rattle.runtime.specs.Promises.{Good, FoundIn};
 ghost use Rattle.runtime.specs.Runtimes.{stateIn, tablesIn, askedIn, askedAt, orderIn, handIn, bookOn};
 ghost use Rattle.layout.specs.Layout.{Long, runtimeIn, Becomes};
 ghost use Rattle.layout.specs.Promises.{Goes, Turns};
-ghost use Rattle.host_steps.specs.Altered.{lengthenedSlot, sequencedSlot, soonerAt, pendingAt, executing, restedBy, BeginsIn, TightensIn};
+ghost use Rattle.host_steps.specs.Altered.{lengthenedSlot, sequencedSlot, soonerAt, pendingAt, executing, restedBy, BeginsIn, TightensIn, freshNumbers, refreshedIn, ResumesAs};
 
 // flags ----------------------------------------------------------------------------------------------------------------
 // New flags.
@@ -655,8 +658,49 @@ fn trip_order(state: &mut [u64], reason: Reason) -> Answer
     follow(state, course)
 }
 
-// What follows the receipt of a fallback.
-fn resume(state: &mut [u64]) -> Answer
+fn freshened(numbers: Numbers) -> Numbers
+    ensures { λ r. ⌜ r ≡ freshNumbers numbers ⌝ }
+{
+    let mode = numbers.mode;
+    let state = mode.state;
+    let fresh = Mode {
+        state: refreshed(numbers.held != 0, state),
+    };
+    let mut next = numbers;
+    next.mode = fresh;
+    next
+}
+
+// The state refreshed, and nothing awaited.
+fn refresh(state: &mut [u64])
+    requires { ⌜ Long (now state) ⌝ }
+    ensures { λ _. ⌜ Becomes (now (state .entry)) (now (state .exit)) (refreshedIn (runtimeIn (now (state .entry)))) ⌝ }
+{
+    let numbers = numbers_in(state);
+    put_numbers(state, freshened(numbers));
+    put_waiting(state, awaiting(Awaited::Nothing));
+}
+
+// A cancel ends.
+fn end_cancel(state: &mut [u64]) -> Answer
+    requires { ⌜ Long (now state) ⌝ }
+    ensures { λ r. ⌜ Goes (now (state .entry)) (now (state .exit)) r (Good (runtimeIn (now (state .entry)))) (proceed (Done (refreshState (bookOn (runtimeIn (now (state .entry))))) Succeeded)) ⌝ }
+{
+    refresh(state);
+    Answer::Succeeded
+}
+
+// The expiries are over, and the call in hand goes on.
+fn end_expiries(state: &mut [u64]) -> Answer
+    requires { ⌜ Long (now state) ⌝ }
+    ensures { λ r. ⌜ Goes (now (state .entry)) (now (state .exit)) r (Good (runtimeIn (now (state .entry)))) (proceed (tickEnd (askedIn (runtimeIn (now (state .entry)))) (bookOn (runtimeIn (now (state .entry)))))) ⌝ }
+{
+    refresh(state);
+    go_on(state)
+}
+
+// What follows the receipt of a fallback, any way of it: look, decide, follow.
+fn resume_on(state: &mut [u64]) -> Answer
     requires { ⌜ Long (now state) ⌝ }
     ensures { λ r. ⌜ Goes (now (state .entry)) (now (state .exit)) r (Good (runtimeIn (now (state .entry)))) (proceed (afterFallback (runtimeIn (now (state .entry)) .falling) (tablesIn (runtimeIn (now (state .entry))) .capabilities) (askedIn (runtimeIn (now (state .entry)))) (runtimeIn (now (state .entry)) .revoked .ok) (bookOn (runtimeIn (now (state .entry)))))) ⌝ }
 {
@@ -675,6 +719,51 @@ fn resume(state: &mut [u64]) -> Answer
         return go_on(state);
     }
     answer
+}
+
+// What follows a fallback: the end of a cancel or the next of the expiries, where it succeeded, or anything.
+pub enum Resuming {
+    Cancel,
+    Expiry,
+    Other,
+}
+
+fn resumes_by(falling: Falling, ok: bool) -> Resuming
+    ensures { λ r. ⌜ ResumesAs r (falling .after) ok ⌝ }
+{
+    let after = falling.after;
+    if !ok {
+        return Resuming::Other;
+    }
+    match after {
+        AfterFallback::Trip => Resuming::Other,
+        AfterFallback::Expiry => Resuming::Expiry,
+        AfterFallback::Precondition => Resuming::Other,
+        AfterFallback::Recovery => Resuming::Other,
+        AfterFallback::Cancel => Resuming::Cancel,
+    }
+}
+
+// What follows the receipt of a fallback, the way first: where no axis falls back next, nothing is looked up or stored for one.
+fn resume(state: &mut [u64]) -> Answer
+    requires { ⌜ Long (now state) ⌝ }
+    ensures { λ r. ⌜ Goes (now (state .entry)) (now (state .exit)) r (Good (runtimeIn (now (state .entry)))) (proceed (afterFallback (runtimeIn (now (state .entry)) .falling) (tablesIn (runtimeIn (now (state .entry))) .capabilities) (askedIn (runtimeIn (now (state .entry)))) (runtimeIn (now (state .entry)) .revoked .ok) (bookOn (runtimeIn (now (state .entry)))))) ⌝ }
+{
+    let falling = falling_in(state);
+    let revoked = revoked_in(state);
+    let way = resumes_by(falling, revoked.ok);
+    match way {
+        Resuming::Cancel => end_cancel(state),
+        Resuming::Expiry => {
+            let next = look_due(state, falling.axis + 1, falling.time);
+            if next < 8 {
+                resume_on(state)
+            } else {
+                end_expiries(state)
+            }
+        }
+        Resuming::Other => resume_on(state),
+    }
 }
 
 // The order goes to the driver, with the state that was observed.

@@ -1,14 +1,9 @@
-use Rattle.host_steps.proofs.Replies.{falls-low, resumes-on, ends-on}
-use Rattle.layout.proofs.Chains.{long-after}
+use native.Mathlib.Omega.{arith}
+use Rattle.host_steps.proofs.Refreshes.{cancel-resumed, expiry-resumed}
+use Rattle.host_steps.proofs.Replies.{falls-low}
 use borrow.Author.Needs.{needs}
 use Rattle.host_steps.proofs.resume.Statement.{statement}
 use Rattle.host_steps.proofs.resume.Tie as tie
-
-fixed-in-requires : tie.Need-fixed-in-requires
-fixed-in-requires c κs = search needs
-
-numbers-in-requires : tie.Need-numbers-in-requires
-numbers-in-requires c κs = search needs
 
 falling-in-requires : tie.Need-falling-in-requires
 falling-in-requires c κs = search needs
@@ -16,63 +11,59 @@ falling-in-requires c κs = search needs
 revoked-in-requires : tie.Need-revoked-in-requires
 revoked-in-requires c κs = search needs
 
-search-after-requires : tie.Need-search-after-requires
-search-after-requires c κs = falls-low _ (c .before .before .falling-in .ensures)
+resumes-by-requires : tie.Need-resumes-by-requires
+resumes-by-requires c κs = search needs
 
-look-sought-requires : tie.Need-look-sought-requires
-look-sought-requires c κs = search needs
+enum-told : tie.Need-enum-told
+enum-told c = search needs
 
-cast-lease-at : tie.Need-cast-lease-at
-cast-lease-at c = search needs
+end-cancel-requires : tie.Need-end-cancel-requires
+end-cancel-requires c κs = c .before .before .before .before .before .before .before .before .before .pre
 
-lease-at-requires : tie.Need-lease-at-requires
-lease-at-requires c κs = search needs
+enum-told-2 : tie.Need-enum-told-2
+enum-told-2 c = search needs
 
-resumed-requires : tie.Need-resumed-requires
-resumed-requires c κs = falls-low _ (c .before .before .before .before .before .before .before .falling-in .ensures)
+add-look-due : tie.Need-add-look-due
+add-look-due c = omega (arith, falls-low _ (c .before .before .before .before .before .before .before .falling-in .ensures) .axis)
 
-follow-requires : tie.Need-follow-requires
-follow-requires c κs = c .before .before .before .before .before .before .before .before .before .before .before .before .before .before .before .before .pre
+look-due-requires : tie.Need-look-due-requires
+look-due-requires c κs = (c .before .before .before .before .before .before .before .before .before .before .pre, omega (arith, falls-low _ (c .before .before .before .before .before .before .before .falling-in .ensures) .axis))
 
-is-going-on-requires : tie.Need-is-going-on-requires
-is-going-on-requires c κs = search needs
+resume-on-requires : tie.Need-resume-on-requires
+resume-on-requires c κs = c .before .before .before .before .before .before .before .before .before .before .before .before .before .pre
 
-go-on-requires : tie.Need-go-on-requires
-go-on-requires c κs = long-after (c .before .before .before .before .before .before .before .before .before .before .before .before .before .before .before .before .before .before .before .before .before .before .pre) (c .before .before .before .before .before .follow .ensures .same)
+end-expiries-requires : tie.Need-end-expiries-requires
+end-expiries-requires c κs = c .before .before .before .before .before .before .before .before .before .before .before .before .before .pre
+
+enum-told-3 : tie.Need-enum-told-3
+enum-told-3 c = search needs
+
+resume-on-requires-2 : tie.Need-resume-on-requires-2
+resume-on-requires-2 c κs = c .before .before .before .before .before .before .before .before .before .pre
 
 same-length : tie.Need-same-length
 same-length c = search needs
 
 returns : tie.Need-returns
-returns c =
-    resumes-on _ _ _ _ (c .before .before .before .before .before .before .before .before .before .before .before .before .before .before .before .before .before .before .before .before .before .before .fixed-in .ensures) (c .before .before .before .before .before .before .before .before .before .before .before .before .before .before .before .before .before .before .before .before .numbers-in .ensures) (c .before .before .before .before .before .before .before .before .before .before .before .before .before .before .before .before .before .before .falling-in .ensures) (c .before .before .before .before .before .before .before .before .before .before .before .before .before .before .before .before .revoked-in .ensures) (c .before .before .before .before .before .before .before .before .before .before .before .before .before .before .before .search-after .ensures .0) (c .before .before .before .before .before .before .before .before .before .before .before .before .before .look-sought .ensures .0) (c .before .before .before .before .before .before .before .before .before .before .before .lease-at .ensures)
-    (c .before .before .before .before .before .before .before .before .before .before .resumed .ensures) (c .before .before .before .before .before .before .before .before .follow .ensures) _ (c .before .before .before .before .before .is-going-on .ensures) (c .before .before .before .before .if1 .taken) (c .before .before .go-on .ensures)
+returns c = cancel-resumed _ _ (c .before .before .before .before .before .before .before .before .before .falling-in .ensures) (c .before .before .before .before .before .before .before .revoked-in .ensures) (c .before .before .before .before .before .before .resumes-by .ensures) (c .before .before .before .before .enum-told .given .1) (c .before .before .end-cancel .ensures)
 
 same-length-2 : tie.Need-same-length-2
 same-length-2 c = search needs
 
 returns-2 : tie.Need-returns-2
-returns-2 c =
-    ends-on _ _ _ _ (c .before .before .before .before .before .before .before .before .before .before .before .before .before .before .before .before .before .before .fixed-in .ensures) (c .before .before .before .before .before .before .before .before .before .before .before .before .before .before .before .before .numbers-in .ensures) (c .before .before .before .before .before .before .before .before .before .before .before .before .before .before .falling-in .ensures) (c .before .before .before .before .before .before .before .before .before .before .before .before .revoked-in .ensures) (c .before .before .before .before .before .before .before .before .before .before .before .search-after .ensures .0) (c .before .before .before .before .before .before .before .before .before .look-sought .ensures .0) (c .before .before .before .before .before .before .before .lease-at .ensures)
-    (c .before .before .before .before .before .before .resumed .ensures) (c .before .before .before .before .follow .ensures) _ (c .before .is-going-on .ensures) (c .if1 .left)
+returns-2 c = c .before .before .resume-on .ensures
+
+same-length-3 : tie.Need-same-length-3
+same-length-3 c = search needs
+
+returns-3 : tie.Need-returns-3
+returns-3 c = expiry-resumed _ _ (c .before .before .before .before .before .before .before .before .before .before .before .before .before .falling-in .ensures) (c .before .before .before .before .before .before .before .before .before .before .before .revoked-in .ensures) (c .before .before .before .before .before .before .before .before .before .before .resumes-by .ensures) (c .before .before .before .before .before .before .before .before .enum-told2 .given .1) _ (c .before .before .before .before .before .look-due .ensures .0) (c .before .before .before .before .if1 .left) (c .before .before .end-expiries .ensures)
+
+same-length-4 : tie.Need-same-length-4
+same-length-4 c = search needs
+
+returns-4 : tie.Need-returns-4
+returns-4 c = c .before .before .resume-on2 .ensures
 
 pub resume-spec : {M : Type 1} → statement M
-resume-spec =
-    tie.close
-    (tie.spec
-    fixed-in-requires
-    numbers-in-requires
-    falling-in-requires
-    revoked-in-requires
-    search-after-requires
-    look-sought-requires
-    cast-lease-at
-    lease-at-requires
-    resumed-requires
-    follow-requires
-    is-going-on-requires
-    go-on-requires
-    same-length
-    returns
-    same-length-2
-    returns-2)
+resume-spec = tie.close (tie.spec falling-in-requires revoked-in-requires resumes-by-requires enum-told end-cancel-requires enum-told-2 add-look-due look-due-requires resume-on-requires end-expiries-requires enum-told-3 resume-on-requires-2 same-length returns same-length-2 returns-2 same-length-3 returns-3 same-length-4 returns-4)
