@@ -1,4 +1,4 @@
--- One more record: what is answered, what is written, and where the session stands. Assumes nothing.
+-- One more record: what is answered, what is written, and where the words stand. Assumes nothing.
 use Prim.Native.Nat.{ℕ, _+_, _*_, _/_, _%_, _≤_, _<_}
 use mathlib.Core.Bool.{true, false, and-false}
 use borrow.Author.Tests.{lt-ltb, le-ltb}
@@ -8,17 +8,18 @@ use mathlib.Core.Path.{_≡_, refl, sym, ap, _∙_, subst}
 use native.Mathlib.Nat.{zero-add, le-antisymm}
 use native.Mathlib.Numerals.{add-one}
 use native.Mathlib.Omega.{arith}
-use lib.ListN.{length, drop, length-append}
+use lib.ListN.{length, drop, replicate, length-append, length-replicate}
 use Rattle.words.specs.Words.{recordAt, littleEnd, bytesOf, over}
 use Rattle.words.proofs.Over.{length-over, over-over, over-nil}
 use Rattle.words.proofs.Ends.{length-bytesOf}
 use Rattle.format.specs.Decode.{Record, decode}
 use Rattle.format.specs.Encode.{padded}
-use Rattle.session.specs.declared.Session.{Session}
-use Rattle.session.specs.declared.Turn.{Turn}
 use Rattle.session.specs.Records.{Standing, opening, Answer, step, answerWords}
-use Rattle.session.specs.Sessions.{Stands, SessionSound, Answers}
+use Rattle.runtime.specs.Stages.{RuntimeSound}
+use Rattle.layout.specs.Layout.{runtimeIn}
+use Rattle.host_records.specs.Standings.{Stands, Answered, Goes}
 use Rattle.wire.specs.Wire.{recordsIn, answersFrom, standingAfter, answerBytes, runs, isShort, shortBytes, written}
+use Rattle.wire.proofs.Zeros.{zero-at, zeros-sound, zeros-stand}
 
 answers-more : (s : Standing) (rs : List Record) (r : Record)
     → answersFrom s (rs ++ (r ∷ [])) ≡ answersFrom s rs ++ (step (standingAfter s rs) r .answer ∷ [])
@@ -45,27 +46,37 @@ abbrev pub standing : List ℕ → ℕ → Standing
 standing input i = standingAfter opening (recordsIn input i)
 
 -- what holds after the first records
-pub record Ran (input entry out : List ℕ) (s : Session) (i : ℕ) : Type 0 where
-  pub sound : SessionSound s
-  pub stands : Stands s (standing input i)
+pub record Ran (input entry out w : List ℕ) (i : ℕ) : Type 0 where
+  pub long : length w ≡ 2464
+  pub sound : RuntimeSound (runtimeIn w)
+  pub stands : Stands w (standing input i)
   pub size : length (answered input i) ≡ 208 * i
   pub output : out ≡ over entry 0 (answered input i)
   pub same : length out ≡ length entry
 
-pub ran-none : (input entry : List ℕ) (s : Session) → SessionSound s × Stands s opening → Ran input entry entry s 0
+pub ran-none : (input entry : List ℕ) (n : ℕ) → n ≡ 2464 → Ran input entry entry (replicate n 0) 0
 unfolding recordsIn answersFrom standingAfter answerBytes
-ran-none input entry s h = record { sound = h .0; stands = h .1; size = refl; output = sym (over-nil entry 0); same = refl }
+ran-none input entry n e =
+    record {
+      long = length-replicate n 0 ∙ e;
+      sound = zeros-sound (replicate n 0) (zero-at n);
+      stands = zeros-stand (replicate n 0) (zero-at n);
+      size = refl;
+      output = sym (over-nil entry 0);
+      same = refl;
+    }
 
-module _ {input entry out : List ℕ} {s : Session} {i : ℕ} (r : Ran input entry out s i) {ws : List ℕ} (w : ws ≡ recordAt input (128 * i)) (t : Turn)
-    (a : (x : Standing) → Stands s x → Answers t (step x (decode ws))) (n : length (t .words) ≡ 26) where
-  told : Answers t (step (standing input i) (decode (recordAt input (128 * i))))
-  told = subst (λ (v : List ℕ). Answers t (step (standing input i) (decode v))) w (a (standing input i) (r .stands))
+module _ {input entry out w : List ℕ} {i : ℕ} (r : Ran input entry out w i) {ws : List ℕ} (u : ws ≡ recordAt input (128 * i)) {w′ : List ℕ} (t : List ℕ)
+    (g : Goes w w′ t (decode ws)) (n : length t ≡ 26) where
+  told : Answered w′ t (step (standing input i) (decode (recordAt input (128 * i))))
+  told =
+      subst (λ (v : List ℕ). Answered w′ t (step (standing input i) (decode v))) u (g .answers (r .sound) (standing input i) (r .stands))
 
   one-more : recordsIn input (i + 1) ≡ recordsIn input i ++ (decode (recordAt input (128 * i)) ∷ [])
   unfolding recordsIn
   one-more = rw (add-one i)
 
-  written-more : answered input (i + 1) ≡ answered input i ++ bytesOf (t .words)
+  written-more : answered input (i + 1) ≡ answered input i ++ bytesOf t
   written-more =
       rw (one-more, answers-more opening (recordsIn input i) (decode (recordAt input (128 * i))))
       (bytes-more (answersFrom opening (recordsIn input i)) _ ∙ ap (λ (v : List ℕ). answered input i ++ bytesOf v) (sym (told .words)))
@@ -73,29 +84,29 @@ module _ {input entry out : List ℕ} {s : Session} {i : ℕ} (r : Ran input ent
   size-more : length (answered input (i + 1)) ≡ 208 * (i + 1)
   size-more =
       let e = r .size in
-      let f = length-bytesOf (t .words) in
-      rw (written-more, length-append (answered input i) (bytesOf (t .words))) (omega (arith, e, f, n))
+      let f = length-bytesOf t in
+      rw (written-more, length-append (answered input i) (bytesOf t)) (omega (arith, e, f, n))
 
-  pub ran-more : (out′ : List ℕ) → 208 * (i + 1) ≤ length entry → out′ ≡ over out (208 * i) (bytesOf (t .words)) → Ran input entry out′ (t .session) (i + 1)
-  ran-more out′ room e = record { sound = told .sound; stands = placed; size = size-more; output = whole; same = kept }
+  pub ran-more : (out′ : List ℕ) → 208 * (i + 1) ≤ length entry → out′ ≡ over out (208 * i) (bytesOf t) → Ran input entry out′ w′ (i + 1)
+  ran-more out′ room e = record { long = g .long ∙ r .long; sound = told .sound; stands = placed; size = size-more; output = whole; same = kept }
     where
-      placed : Stands (t .session) (standing input (i + 1))
+      placed : Stands w′ (standing input (i + 1))
       placed =
           rw (one-more, standing-more opening (recordsIn input i) (decode (recordAt input (128 * i)))) (told .stands)
 
       whole : out′ ≡ over entry 0 (answered input (i + 1))
       whole =
-          e ∙ ap (λ (l : List ℕ). over l (208 * i) (bytesOf (t .words))) (r .output)
-          ∙ ap (λ (k : ℕ). over (over entry 0 (answered input i)) k (bytesOf (t .words))) (sym (zero-add (208 * i)))
-          ∙ over-over entry 0 (answered input i) (bytesOf (t .words)) (208 * i) (r .size) (omega arith) ∙ ap (over entry 0) (sym written-more)
+          e ∙ ap (λ (l : List ℕ). over l (208 * i) (bytesOf t)) (r .output)
+          ∙ ap (λ (k : ℕ). over (over entry 0 (answered input i)) k (bytesOf t)) (sym (zero-add (208 * i)))
+          ∙ over-over entry 0 (answered input i) (bytesOf t) (208 * i) (r .size) (omega arith) ∙ ap (over entry 0) (sym written-more)
 
       kept : length out′ ≡ length entry
       kept = ap length whole ∙ length-over entry 0 (answered input (i + 1)) (let f = size-more in omega arith)
 
 -- after the last of them
-pub ended : {input entry out : List ℕ} {s : Session} {i n : ℕ} → Ran input entry out s i → i ≤ n → n ≤ i
+pub ended : {input entry out w : List ℕ} {i n : ℕ} → Ran input entry out w i → i ≤ n → n ≤ i
     → (out ≡ over entry 0 (answered input n)) × (length (answered input n) ≡ 208 * n)
-ended {input} {entry} {out} {s} {i} {n} r h k =
+ended {input} {entry} {out} {w} {i} {n} r h k =
     let e = le-antisymm h k in (
       subst (λ (m : ℕ). out ≡ over entry 0 (answered input m)) e (r .output),
       subst (λ (m : ℕ). length (answered input m) ≡ 208 * m) e (r .size),

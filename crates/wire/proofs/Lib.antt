@@ -1,3 +1,4 @@
 pub mod Answered
 pub mod Rooms
 pub mod Theorem
+pub mod Zeros

@@ -1,9 +1,8 @@
 // Whole lives as bytes (docs/WIRE.md): input records in, an output record for each out. Promises: the bytes written are the encoding of the
 // definitions' answers to the decoded records, and nothing else of the output is altered; there is no condition on the bytes. Rests on
-// `session` for the records and on `words` for the bytes.
+// `host_records` for the records, over words of its own, and on `words` for the bytes.
 use format::plain_words;
-use session::fresh;
-use session::step;
+use host_records::step;
 use words::put_record;
 use words::record_at;
 ghost use mathlib.Core.List.{[]};
@@ -30,14 +29,12 @@ fn run_records(input: &[u8], output: &mut [u8], count: usize)
     ensures { λ _. ⌜ now (output .exit) ≡ over (now (output .entry)) 0 (answerBytes (answersFrom opening (recordsIn (now (input .entry)) count))) ⌝ }
     ensures { λ _. ⌜ length (answerBytes (answersFrom opening (recordsIn (now (input .entry)) count))) ≡ 208 * count ⌝ }
 {
-    let mut session = fresh();
-    let mut i = 0;
+    // Nothing is listed, and there is no runtime.
+    let mut state = [0u64; 2464];
+    let mut i: usize = 0;
     while i < count {
         let words = record_at(input, 128 * i);
-        let turn = step(session, words);
-        let next = turn.session;
-        let answer = turn.words;
-        session = next;
+        let answer = step(&mut state, words);
         put_record(output, 208 * i, answer);
         i += 1;
     }
