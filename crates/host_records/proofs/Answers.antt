@@ -38,9 +38,9 @@ use Rattle.runtime.specs.declared.Runtime.{Runtime}
 use Rattle.runtime.specs.Runtimes.{stateIn, handIn, askedIn}
 use Rattle.runtime.specs.Stages.{phaseIn, RuntimeSound, Moves}
 use Rattle.layout.specs.Layout.{runtimeIn, listingIn}
-use Rattle.session.specs.Records.{step, told, answerWords}
 use Rattle.host_calls.specs.Calls.{Steps}
 use Rattle.host_start.specs.Starts.{ListsOne, Makes}
+use Rattle.host_records.specs.Records.{step, told, answerWords}
 use Rattle.host_records.specs.Standings.{ReadsAs, Answered, Goes}
 
 -- items --------------------------------------------------------------------------------------------------------------------
@@ -119,7 +119,7 @@ some-listing s n h =
       same = sym (take-all 17 (take (s .count) (s .records)) (omega (arith, k, h)));
     }
 
-listing-there : (w : List ℕ) → Listing (listingIn w) (take (listingIn w .count) (listingIn w .records))
+pub listing-there : (w : List ℕ) → Listing (listingIn w) (take (listingIn w .count) (listingIn w .records))
 unfolding listingIn
 listing-there w = some-listing (listingIn w) (length-table capabilityOf w 2221 14 17) (below-less 18 _ (omega arith))
 

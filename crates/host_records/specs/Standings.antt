@@ -14,7 +14,7 @@ use Rattle.format.specs.Encode.{encode}
 use Rattle.decide_start.specs.Starts.{Listing}
 use Rattle.runtime.specs.Stages.{phaseIn, RuntimeSound}
 use Rattle.layout.specs.Layout.{runtimeIn, listingIn}
-use Rattle.session.specs.Records.{Standing, RecordStep, step, answerWords}
+use Rattle.host_records.specs.Records.{Standing, RecordStep, step, answerWords}
 
 -- what is listed for the next start, and the phase of the life in hand
 pub record Stands (w : List ℕ) (x : Standing) : Type 0 where

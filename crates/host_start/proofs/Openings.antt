@@ -1,22 +1,15 @@
--- The words that a start makes: those of zeros are a blank runtime, and what is stored over them a fresh one. Assumes nothing.
-use Prim.Native.Nat.{ℕ, zero, _+_, _*_, _<_, _≤_}
+-- The words that a start makes: what is stored over zeros is a fresh runtime. Assumes nothing.
+use Prim.Native.Nat.{ℕ, zero, _<_, _≤_}
 use mathlib.Core.Bool.{Bool, true, false, cond}
 use mathlib.Core.List.{List}
 use mathlib.Core.Path.{_≡_, refl, sym, ap, _∙_, subst}
 use native.Mathlib.Omega.{arith}
 use borrow.Author.Tests.{ltb-true}
 use lib.Dec.{ltb}
-use lib.ListN.{length, getD, replicate}
 use Rattle.model.specs.declared.Capability.{Capability}
 use Rattle.model.specs.declared.Config.{Config}
-use Rattle.model.specs.Records.{noLease, noActive, noReplay}
-use Rattle.cells.specs.Cells.{tab, part, table}
-use Rattle.cells.proofs.Regions.{part-zero, table-zero, length-table}
-use Rattle.format.specs.Decode.{signed, boundsOf, classOf, verificationOf, capabilityOf}
 use Rattle.rows.specs.Codes.{below}
-use Rattle.rows.specs.Rows.{fallingOf, fallingWords, carryingOf, leaseSlotOf, activeSlotOf, replaySlotOf, receiptOf, indexOf}
-use Rattle.receipts.specs.Indexes.{Opens}
-use Rattle.receipts.proofs.Promises.{opens}
+use Rattle.rows.specs.Rows.{fallingOf, fallingWords}
 use Rattle.rules.specs.Protocol.{refusedStart, start}
 use Rattle.state.specs.State.{InBounds}
 use Rattle.state.specs.declared.Answer.{Answer}
@@ -29,74 +22,15 @@ use Rattle.decide_start.specs.declared.Trial.{Trial}
 use Rattle.decide_start.specs.Starts.{Listing, startOn, refusalOf, isRefusal, Fixes, numbersAt, endedBy, triedAt, overBy, trialOf, firstTrial}
 use Rattle.state.specs.Axes.{firstUsed}
 use Rattle.runtime.specs.declared.Runtime.{Runtime}
-use Rattle.runtime.specs.Stages.{startingOn, Empties, Moves}
-use Rattle.runtime.proofs.Openings.{Fresh, empties, moves-fresh}
+use Rattle.runtime.specs.Stages.{startingOn, Moves}
+use Rattle.runtime.proofs.Openings.{Fresh, moves-fresh}
 use Rattle.layout.specs.Fields.{withStarting, withWaiting, withNumbers, withSlot, withFalling, withFixed, withCapabilities}
-use Rattle.layout.specs.Layout.{size, Long, runtimeIn, listingIn, placesIn, slotNumberOf, Same, Becomes}
+use Rattle.layout.specs.Layout.{size, Long, runtimeIn, listingIn, Becomes}
+use Rattle.host_start.proofs.Zeros.{Blank, blank}
 use Rattle.host_start.specs.Starts.{Unlists, Clears, Makes}
 
 pub long-cleared : {a b : List ℕ} → Long a → Clears a b → Long b
 long-cleared l s = subst (λ (n : ℕ). size ≤ n) (sym (s .long)) l
-
--- zeros ------------------------------------------------------------------------------------------------------------------
-
--- no lease, no order, no receipt
-record Blank (rt : Runtime) : Type 0 where
-  pub cursor : rt .cursor ≡ 0
-  pub at : rt .carrying .at ≡ 0
-  pub places : Empties (rt .places)
-  pub leases : rt .leases ≡ replicate 9 noLease
-  pub active : rt .active ≡ replicate 9 noActive
-  pub replay : rt .replay ≡ replicate 33 noReplay
-  pub slots : length (rt .slots) ≡ 65
-
-lease-zero : leaseSlotOf (tab (λ (i : ℕ). 0) 12) ≡ noLease
-unfolding leaseSlotOf boundsOf signed
-lease-zero = refl
-
-active-zero : activeSlotOf (tab (λ (i : ℕ). 0) 15) ≡ noActive
-unfolding activeSlotOf capabilityOf classOf verificationOf boundsOf signed
-active-zero = refl
-
-replay-zero : replaySlotOf (tab (λ (i : ℕ). 0) 4) ≡ noReplay
-unfolding replaySlotOf
-replay-zero = refl
-
-carrying-zero : carryingOf (tab (λ (i : ℕ). 0) 3) .at ≡ 0
-unfolding carryingOf below
-carrying-zero = refl
-
-index-zero : Opens (indexOf (tab (λ (i : ℕ). 0) 5))
-unfolding indexOf
-index-zero = opens _ _ refl refl
-
-module _ (w : List ℕ) (z : (j : ℕ) → 1 ≤ j → j < 2220 → getD w j 0 ≡ 0) where
-  part-blank : (b k : ℕ) → 1 ≤ b → b + k ≤ 2220 → part w b k ≡ tab (λ (i : ℕ). 0) k
-  part-blank b k h r = part-zero w b k (λ j l. z (b + j) (omega (arith, h)) (omega (arith, l, r)))
-
-  -- rows that read as one and the same
-  rows-blank : {A : Type 0} (d : List ℕ → A) (a : A) (off k n : ℕ) → 1 ≤ off → off + n * k ≤ 2220 → d (tab (λ (i : ℕ). 0) k) ≡ a
-      → table d w off k n ≡ tab (λ (i : ℕ). a) n
-  rows-blank d a off k n h r e =
-      table-zero d w off k n (λ j l m. z j (omega (arith, h, l)) (omega (arith, m, r))) ∙ ap (λ x. tab (λ (i : ℕ). x) n) e
-
-  blank-places : Empties (placesIn w)
-  blank-places =
-      empties (placesIn w) (subst (λ (l : List ℕ). Opens (indexOf l)) (sym (part-blank 54 5 (omega arith) (omega arith))) index-zero)
-      (length-table slotNumberOf w 59 1 65) (length-table slotNumberOf w 124 1 65)
-
-  blank : Blank (runtimeIn w)
-  unfolding runtimeIn below
-  blank =
-      record {
-        cursor = ap (below 32) (z 14 (omega arith) (omega arith));
-        at = ap (λ (l : List ℕ). carryingOf l .at) (part-blank 28 3 (omega arith) (omega arith)) ∙ carrying-zero;
-        places = blank-places;
-        leases = rows-blank leaseSlotOf noLease 189 12 9 (omega arith) (omega arith) lease-zero;
-        active = rows-blank activeSlotOf noActive 297 15 9 (omega arith) (omega arith) active-zero;
-        replay = rows-blank replaySlotOf noReplay 670 4 33 (omega arith) (omega arith) replay-zero;
-        slots = length-table receiptOf w 855 21 65;
-      }
 
 -- the axis that is tried -------------------------------------------------------------------------------------------------
 

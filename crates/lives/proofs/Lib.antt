@@ -1,5 +1,4 @@
 pub mod Follows
-pub mod Faithful
 pub mod Logs
 pub mod Theorem
 pub mod Lent

@@ -7,8 +7,7 @@ use Rattle.rules.specs.Log as Log
 use Rattle.rules.specs.Log.{logOf, executed}
 use Rattle.rules.specs.Lists.{Distinct}
 use Rattle.rules.proofs.Theorem.{demands}
-use Rattle.lives.specs.Runs.{CodeLife, lifeOf, logFrom, logIn, executedIn, ClaimOf, CodeClaim}
-use Rattle.lives.proofs.Faithful.{faithful, same-end}
+use Rattle.lives.specs.Runs.{logFrom, logIn, executedIn, ClaimOf}
 use Rattle.lives.proofs.Logs.{log-forward}
 
 module _ {C : Type 0} (lifeIn : C → Life) (outputsIn : C → List Output) (endIn : C → Phase) (same : (c : C) → outputsIn c ≡ outputs (lifeIn c)) (stands : (c : C) → endIn c ≡ endOf (lifeIn c)) where
@@ -28,7 +27,3 @@ module _ {C : Type 0} (lifeIn : C → Life) (outputsIn : C → List Output) (end
   claim-of cs differ =
       let k = demands (map lifeIn cs) (rw (same-boots cs) differ) in
       record { same = same; stands = stands; log = same-log; once = rw (same-orders cs) (k .claim .once); demands = k }
-
--- of the code by value
-pub demand-3-of-the-code : (cs : List CodeLife) → Distinct (map (λ c. lifeOf c .start .bootId) cs) → CodeClaim cs
-demand-3-of-the-code = claim-of lifeOf _ _ faithful same-end

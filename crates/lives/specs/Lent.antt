@@ -1,5 +1,5 @@
--- Lives over the runtime where it stands, by the promises of its public functions alone (crate runtime), and demand 3 of them (00). As in Runs, a step
--- takes a promise as it stands, with its condition, and that the condition holds is proved along the run.
+-- Lives over the runtime where it stands, by the promises of its public functions alone (crate runtime), and demand 3 of them (00). A step takes a
+-- promise as it stands, with its condition: that the condition holds is assumed of no step, and is proved along the run.
 use mathlib.Core.Bool.{false}
 use mathlib.Core.List.{List, _∷_}
 use mathlib.Core.Path.{_≡_}
@@ -35,7 +35,7 @@ pub data LentStep : Runtime → Input → Output → Runtime → Type 0 where
 
 -- a life ---------------------------------------------------------------------------------------------------------------
 
--- one start and a run; a life that is cut is one whose run ends while a reply is awaited
+-- one start and a run; a life that is cut is one whose run ends while a reply is awaited, and nothing of where it stood goes into the next life
 pub record LentLife : Type 0 where
   pub start : Start
   -- what `new` made and answered

@@ -4,14 +4,14 @@
 ghost use mathlib.Core.Path.{_≡_};
 ghost use mathlib.Core.Bool.{_&&_};
 ghost use lib.Dec.{eqb};
-ghost use lib.ListN.{take, drop};
+ghost use lib.ListN.{drop};
 ghost use lib.Signed.{leZ};
 ghost use lib.Bits.{bitAnd};
 ghost use Rattle.model.specs.Reasons.{number, reasonAt};
 ghost use Rattle.model.specs.Records.{defaultConfig, noLease, noCapability, noActive, noReplay};
 ghost use Rattle.model.specs.Lists.{all};
 ghost use Rattle.model.specs.Bounds.{ordered, isZero};
-ghost use Rattle.model.specs.Soundness.{verifiable, sound, idTaken, axisUsed};
+ghost use Rattle.model.specs.Soundness.{verifiable, sound};
 
 pub mod profile;
 
@@ -154,36 +154,6 @@ impl Capability {
         }
         verification.is_sound()
     }
-}
-
-// Whether one of the first `count` records has this id.
-pub fn id_taken(list: [Capability; 16], count: usize, id: u16) -> bool
-    ensures { λ r. ⌜ r ≡ idTaken (take count list) id ⌝ }
-{
-    let mut i = 0;
-    while i < count && i < 16 {
-        let c = list[i];
-        if c.id == id {
-            return true;
-        }
-        i += 1;
-    }
-    false
-}
-
-// Whether one of the first `count` records names this axis.
-pub fn axis_used(list: [Capability; 16], count: usize, axis: u8) -> bool
-    ensures { λ r. ⌜ r ≡ axisUsed (take count list) axis ⌝ }
-{
-    let mut i = 0;
-    while i < count && i < 16 {
-        let c = list[i];
-        if c.resource == axis {
-            return true;
-        }
-        i += 1;
-    }
-    false
 }
 
 pub struct Action {

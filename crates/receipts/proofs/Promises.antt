@@ -30,7 +30,7 @@ use Rattle.receipts.specs.Orders.{order, around, kindsOf, trues, odd, ti
 use Rattle.receipts.specs.Circles.{slotsOf, placeAt, longerBy, shorterBy}
 use Rattle.receipts.specs.Circles as circles
 use Rattle.receipts.specs.Indexes.{Stores, inSlot, rejectedSlots, otherSlots, listOf, Numbered, Long, Sound, Opens, Fronts, Room, Frees, stored, Keeps, Pushes, Points}
-use Rattle.receipts.specs.Rings.{storesOf, Kept, Records, keptAt, receiptIf, receiptIn}
+use Rattle.receipts.specs.Rings.{storesOf, Kept, Records, keptAt}
 use Rattle.receipts.proofs.Circles.{next-below, place-below, slots-length, slots-shorter, slots-longer, slot-at}
 use Rattle.receipts.proofs.KindBits.{kinds-length, kinds-positive, kind-at, older-at}
 use Rattle.receipts.proofs.Merges.{Told, trues-take, before-true, before-false, merge-at}
@@ -384,12 +384,6 @@ module _ (i : Index) (at : ℕ) (f : Found) (p : Points i at f) (st : Stores) (s
   pub kept-nothing : f ≡ Nothing → _≡_ {A = KeptReceipt} (record { presence = Absent; receipt = blank }) (keptAt (getElem? (listOf i st) at))
   unfolding keptAt
   kept-nothing e = let q = (rw e at p) .reads st s in rw q
-
--- the answer holds what may be missing
-pub kept-in : (o : Option Receipt) → receiptIn (keptAt o) ≡ o
-unfolding keptAt receiptIf
-kept-in missing = refl
-kept-in (some r) = refl
 
 -- a push into a ring -------------------------------------------------------------------------------------------------
 

@@ -2,7 +2,6 @@
 use mathlib.Core.Path.{_≡_}
 use mathlib.Core.List.{List, []}
 use mathlib.Core.Option.{Option, none, some}
-use Rattle.model.specs.declared.Presence.{Presence}
 use Rattle.model.specs.declared.Presence.the-variants.{Absent, Present}
 use Rattle.model.specs.declared.Receipt.{Receipt}
 use Rattle.rules.specs.Receipts.{keep}
@@ -36,11 +35,3 @@ pub record Records (before : Ring) (r : Receipt) (after : Ring) : Type 0 where
 unfoldable pub keptAt : Option Receipt → KeptReceipt
 keptAt none = record { presence = Absent; receipt = blank }
 keptAt (some r) = record { presence = Present; receipt = r }
-
-unfoldable pub receiptIf : Presence → Receipt → Option Receipt
-receiptIf Absent r = none
-receiptIf Present r = some r
-
--- what such an answer holds
-abbrev pub receiptIn : KeptReceipt → Option Receipt
-receiptIn k = receiptIf (k .presence) (k .receipt)

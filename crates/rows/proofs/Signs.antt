@@ -2,7 +2,7 @@
 use Prim.Native.Nat.{ℕ, _-_, _%_, _<_}
 use native.Mathlib.Nat.{mod-eq-of-lt}
 use native.Mathlib.Omega.{arith}
-use mathlib.Core.Bool.{Bool, true, false}
+use mathlib.Core.Bool.{Bool}
 use mathlib.Core.List.{List, [], _∷_, map}
 use mathlib.Core.Path.{_≡_, refl, sym, ap, _∙_}
 use borrow.Author.Tests.{lt-ltb, le-ltb}
@@ -16,21 +16,16 @@ use mir.Val.{SFits, Val}
 use Rattle.model.proofs.Capability.{the-row as capability-row}
 use Rattle.model.proofs.Receipt.{the-row as receipt-type}
 use Rattle.model.proofs.Verification.{the-row as verification-row}
-use Rattle.model.specs.Reasons.{number}
 use Rattle.model.specs.Records.{zeroBounds}
 use Rattle.model.specs.declared.ActiveSlot.{ActiveSlot}
 use Rattle.model.specs.declared.Bounds.{Bounds}
 use Rattle.model.specs.declared.Capability.{Capability}
 use Rattle.model.specs.declared.Decision.{Decision}
-use Rattle.model.specs.declared.Decision.the-variants as Decision
 use Rattle.model.specs.declared.ExecutionClass.{ExecutionClass}
 use Rattle.model.specs.declared.ExecutionClass.the-variants as Class
 use Rattle.model.specs.declared.LeaseRequest.{LeaseRequest}
 use Rattle.model.specs.declared.LeaseSlot.{LeaseSlot}
-use Rattle.model.specs.declared.Presence.{Presence}
-use Rattle.model.specs.declared.Presence.the-variants.{Absent, Present}
 use Rattle.model.specs.declared.Reason.{Reason}
-use Rattle.model.specs.declared.Reason.the-variants as Reason
 use Rattle.model.specs.declared.Receipt.{Receipt}
 use Rattle.model.specs.declared.Renewal.{Renewal}
 use Rattle.model.specs.declared.ReplaySlot.{ReplaySlot}
@@ -38,8 +33,9 @@ use Rattle.model.specs.declared.Submission.{Submission}
 use Rattle.model.specs.declared.Verification.{Verification}
 use Rattle.model.specs.declared.Verification.the-variants as Verification
 use Rattle.format.specs.Decode.{signed, boundsOf, classOf, verificationOf, capabilityOf, requestOf, renewalOf, actionOf, submissionOf}
-use Rattle.format.specs.Encode.{bit, unsigned, partAt, minAt, maxAt, classNumber, decisionNumber, verificationWord, maskWord, valueWord, capabilityWords, leaseWords}
-use Rattle.rows.specs.Codes.{paired, lowOf, highOf, signsOf, signsWord, presenceOf, presenceWord, decisionOf, reasonOf}
+use Rattle.format.specs.Encode.{unsigned, partAt, minAt, maxAt, classNumber, verificationWord, maskWord, valueWord, capabilityWords, leaseWords}
+use Rattle.rows.proofs.Codes.{presence-back, decision-back, bit-back, reason-back}
+use Rattle.rows.specs.Codes.{paired, lowOf, highOf, signsOf, signsWord, presenceWord, decisionOf, reasonOf}
 use Rattle.rows.specs.Rows.{leaseSlotOf, leaseSlotWords, capabilityRow, activeSlotOf, activeSlotWords, replaySlotOf, replaySlotWords, receiptOf, receiptRow, requestRow, renewalRow, submissionRow}
 
 -- signed numbers ---------------------------------------------------------------------------------------------------------
@@ -118,58 +114,11 @@ limits-back l p =
 
 -- cases ------------------------------------------------------------------------------------------------------------------
 
-pub presence-back : (p : Presence) → presenceOf (presenceWord p) ≡ p
-presence-back Absent = refl
-presence-back Present = refl
-
-pub decision-back : (d : Decision) → decisionOf (decisionNumber d) ≡ d
-unfolding decisionNumber
-decision-back Decision.Executed = refl
-decision-back Decision.Rejected = refl
-decision-back Decision.Fallback = refl
-decision-back Decision.Control = refl
-decision-back Decision.Failed = refl
-
 pub class-back : (c : ExecutionClass) → classOf (classNumber c) ≡ c
 unfolding classOf classNumber
 class-back Class.Stream = refl
 class-back Class.Discrete = refl
 class-back Class.Control = refl
-
-pub bit-back : (b : Bool) → eqb (bit b) 1 ≡ b
-unfolding bit
-bit-back true = refl
-bit-back false = refl
-
-pub reason-back : (r : Reason) → reasonOf (number r) ≡ r
-reason-back Reason.Ok = refl
-reason-back Reason.Bound = refl
-reason-back Reason.Stale = refl
-reason-back Reason.Authority = refl
-reason-back Reason.Duplicate = refl
-reason-back Reason.Precondition = refl
-reason-back Reason.OldSequence = refl
-reason-back Reason.Epoch = refl
-reason-back Reason.UnknownCapability = refl
-reason-back Reason.TooEarly = refl
-reason-back Reason.Invalid = refl
-reason-back Reason.Estop = refl
-reason-back Reason.Faulted = refl
-reason-back Reason.Watchdog = refl
-reason-back Reason.LeaseExpired = refl
-reason-back Reason.StreamExpired = refl
-reason-back Reason.Driver = refl
-reason-back Reason.Verification = refl
-reason-back Reason.Clock = refl
-reason-back Reason.Busy = refl
-reason-back Reason.Canceled = refl
-reason-back Reason.InvalidStorm = refl
-reason-back Reason.StateStale = refl
-reason-back Reason.BootMismatch = refl
-reason-back Reason.LeaseGranted = refl
-reason-back Reason.LeaseRenewed = refl
-reason-back Reason.Recovered = refl
-reason-back Reason.Startup = refl
 
 pub verification-back : (v : Verification) → maskWord v < 4294967296 → valueWord v < 4294967296
     → verificationOf (eqb (verificationWord v) 1) (maskWord v % 4294967296) (valueWord v % 4294967296) ≡ v

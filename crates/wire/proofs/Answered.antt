@@ -14,7 +14,7 @@ use Rattle.words.proofs.Over.{length-over, over-over, over-nil}
 use Rattle.words.proofs.Ends.{length-bytesOf}
 use Rattle.format.specs.Decode.{Record, decode}
 use Rattle.format.specs.Encode.{padded}
-use Rattle.session.specs.Records.{Standing, opening, Answer, step, answerWords}
+use Rattle.host_records.specs.Records.{Standing, opening, Answer, step, answerWords}
 use Rattle.runtime.specs.Stages.{RuntimeSound}
 use Rattle.layout.specs.Layout.{runtimeIn}
 use Rattle.host_records.specs.Standings.{Stands, Answered, Goes}

@@ -6,7 +6,7 @@ use Rattle.rules.specs.Lives.{outputs, outputsFrom}
 use Rattle.rules.specs.Lists.{Distinct}
 use Rattle.rules.proofs.Theorem.{demands}
 use Rattle.format.specs.Decode.{Record, Lists, Starts, Feeds, Malformed}
-use Rattle.session.specs.Records.{Standing, opening, told, step}
+use Rattle.host_records.specs.Records.{Standing, opening, told, step}
 use Rattle.wire.specs.Wire.{answersFrom}
 use Rattle.wire.specs.Claim.{inputsOf, livesFrom, livesIn, outputsIn, joined, WireClaim}
 

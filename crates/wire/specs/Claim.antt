@@ -6,7 +6,7 @@ use Rattle.rules.specs.Protocol.{Input, Output, Gone}
 use Rattle.rules.specs.Lives.{Life, outputs, outputsFrom}
 use Rattle.rules.specs.Demands.{Demands}
 use Rattle.format.specs.Decode.{Record, Lists, Starts, Feeds, Malformed}
-use Rattle.session.specs.Records.{opening, Answer, Listed, Tells, Unread}
+use Rattle.host_records.specs.Records.{opening, Answer, Listed, Tells, Unread}
 use Rattle.wire.specs.Wire.{answersFrom}
 
 -- the calls, replies and readings up to the next start

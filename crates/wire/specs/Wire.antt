@@ -7,7 +7,7 @@ use lib.ListN.{length}
 use Rattle.words.specs.Words.{recordAt, bytesOf}
 use Rattle.format.specs.Decode.{Record, decode}
 use Rattle.format.specs.Encode.{padded}
-use Rattle.session.specs.Records.{Standing, opening, Answer, step, answerWords}
+use Rattle.host_records.specs.Records.{Standing, opening, Answer, step, answerWords}
 
 -- the first records of an input, each 128 bytes
 unfoldable pub recordsIn : List ℕ → ℕ → List Record

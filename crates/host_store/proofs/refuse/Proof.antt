@@ -4,29 +4,19 @@ use Rattle.runtime.proofs.Alters.{refuses}
 use borrow.Author.Needs.{needs}
 use Rattle.host_store.proofs.refuse.Statement.{statement}
 use Rattle.host_store.proofs.refuse.Tie as tie
-use Rattle.host_store.proofs.refuse.Reads as reads
-use Rattle.host_store.proofs.refuse.Lts as lts
-use Rattle.layout.proofs.put_reason.Reads as put-reason-reads
-use Rattle.layout.proofs.put_waiting.Reads as put-waiting-reads
-use Rattle.runtime.proofs.awaiting.Reads as awaiting-reads
 
--- src/lib.rt:514:24
 awaiting-requires : tie.Need-awaiting-requires
 awaiting-requires c κs = search needs
 
--- src/lib.rt:514:5
 put-waiting-requires : tie.Need-put-waiting-requires
 put-waiting-requires c κs = search needs
 
--- src/lib.rt:515:5
 put-reason-requires : tie.Need-put-reason-requires
 put-reason-requires c κs = search needs
 
--- src/lib.rt:510:1
 same-length : tie.Need-same-length
 same-length c = search needs
 
--- src/lib.rt:510:1
 returns : tie.Need-returns
 returns c =
     goes-by _ (becomes-then (withWhy _) (rw (c .before .before .before .before .before .before .before .awaiting .ensures) at (c .before .before .before .before .before .before .put-waiting .ensures)) (c .before .before .put-reason .ensures)) (λ g. refuses _ _ g)

@@ -1,3 +1,0 @@
-pub mod Leases
-pub mod Found
-pub mod Books

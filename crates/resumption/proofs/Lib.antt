@@ -1,2 +1,0 @@
-pub mod Expiries
-pub mod Quiet

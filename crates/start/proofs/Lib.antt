@@ -1,4 +1,0 @@
-pub mod Records
-pub mod Axes
-pub mod Steps
-pub mod Listings

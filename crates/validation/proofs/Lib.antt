@@ -1,4 +1,0 @@
-pub mod Groups
-pub mod Records
-pub mod Parameters
-pub mod Receipts
