@@ -1,3 +1,7 @@
+pub mod Back
+pub mod FieldLaws
+pub mod Held
+pub mod Inputs
 pub mod KindLaws
 pub mod SignLaws
 pub mod WordLaws
