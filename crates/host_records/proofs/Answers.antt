@@ -1,6 +1,6 @@
 -- Words of items and of what is seen, and where a record leaves lent words. Assumes nothing.
 use Prim.Native.Nat.{ℕ, _<_}
-use mathlib.Core.Bool.{Bool, true, false, cond}
+use mathlib.Core.Bool.{Bool, true, false, false≢true, cond}
 use mathlib.Core.List.{List, []}
 use mathlib.Core.Option.{some, none}
 use mathlib.Core.Path.{_≡_, refl, sym, ap, _∙_, subst}
@@ -18,6 +18,7 @@ use Rattle.model.specs.declared.Receipt.{Receipt}
 use Rattle.model.specs.declared.Submission.{Submission}
 use Rattle.receipts.specs.Blank.{blank}
 use Rattle.cells.proofs.Regions.{length-table}
+use Rattle.rules.specs.Log.{tookEffect}
 use Rattle.rules.specs.Protocol.{Item, ItemObserve, ItemExecute, ItemFallback, ItemRecord, Input, Reads, Reading, Phase, Reaction, effect, apply, react}
 use Rattle.rules.specs.Protocol as Protocol
 use Rattle.state.specs.State.{Hand, Asked, itemAt, itemOf, outputOf}
@@ -38,6 +39,7 @@ use Rattle.runtime.specs.declared.Runtime.{Runtime}
 use Rattle.runtime.specs.Runtimes.{stateIn, handIn, askedIn}
 use Rattle.runtime.specs.Stages.{phaseIn, RuntimeSound, Moves}
 use Rattle.layout.specs.Layout.{runtimeIn, listingIn}
+use Rattle.lives.proofs.Lent.{away}
 use Rattle.host_calls.specs.Calls.{Steps}
 use Rattle.host_start.specs.Starts.{ListsOne, Makes}
 use Rattle.host_records.specs.Records.{step, told, answerWords}
@@ -86,6 +88,25 @@ steps-at f {w = w} {w′ = w′} {r = r} e s = subst (λ x. Steps w w′ r (f x)
 
 -- records ------------------------------------------------------------------------------------------------------------------
 
+-- what is fed, and whether anything is
+abbrev pub fedOr : Input → Record → Input
+fedOr x (Lists c) = x
+fedOr x (Starts c b n f) = x
+fedOr x (Feeds y) = y
+fedOr x Malformed = x
+
+abbrev pub isFed : Record → Bool
+isFed (Lists c) = false
+isFed (Starts c b n f) = false
+isFed (Feeds y) = true
+isFed Malformed = false
+
+abbrev isRead : Record → Bool
+isRead (Lists c) = true
+isRead (Starts c b n f) = true
+isRead (Feeds y) = true
+isRead Malformed = false
+
 -- where a reaction leaves the words, and its answer
 answered : {w′ r : List ℕ} {answer : Answer} {l : List Capability} {x y : Reaction} → (RuntimeSound (runtimeIn w′) → r ≡ encode (outputOf answer (stateIn (runtimeIn w′))))
     → Listing (listingIn w′) l → Moves (runtimeIn w′) answer x → x ≡ y → Answered w′ r (told l y)
@@ -100,10 +121,14 @@ answered e n m p =
 pub goes-fed : {w w′ r : List ℕ} {answer : Answer} {i : Input} → Steps w w′ answer i
     → (RuntimeSound (runtimeIn w′) → r ≡ encode (outputOf answer (stateIn (runtimeIn w′)))) → Goes w w′ r (Feeds i)
 unfolding step
-goes-fed {i = i} s e =
+goes-fed {w} {w′} {answer = answer} {i = i} s e =
     record {
       first = s .same .first;
       long = s .same .long;
+      unread = λ q. absurd (false≢true (sym (ap isRead q)));
+      left =
+          λ k y q z.
+          s .unaltered k (away answer (stateIn (runtimeIn w′)) (ap tookEffect (s .moves k .output) ∙ (ap (λ (j : Input). tookEffect (react (phaseIn (runtimeIn w)) j .output)) (ap (fedOr i) q) ∙ z)));
       answers =
           λ k x h. answered e (subst (λ (y : Listed). Listing y (x .listed)) (sym (s .same .listed)) (h .listing)) (s .moves k)
           (ap (λ (p : Phase). react p i) (h .phase));
@@ -133,6 +158,8 @@ goes-begun {w} boot time m e f g =
     record {
       first = any .first;
       long = any .long;
+      unread = λ q. absurd (false≢true (sym (ap isRead q)));
+      left = λ k y q. absurd (false≢true (ap isFed q));
       answers = λ k x h. let made = m (x .listed) (h .listing) in answered e (made .listed) (made .moves) (rw (f, g));
     }
 
@@ -142,6 +169,8 @@ goes-listed m e =
     record {
       first = m .first;
       long = m .long;
+      unread = λ q. absurd (false≢true (sym (ap isRead q)));
+      left = λ k y q. absurd (false≢true (ap isFed q));
       answers =
           λ k x h.
           record {
@@ -157,6 +186,8 @@ goes-shown {w} {r} {q} e =
     record {
       first = refl;
       long = refl;
+      unread = λ _. refl;
+      left = λ _ _ _ _. refl;
       answers =
           λ k x h.
           record {
@@ -168,7 +199,14 @@ goes-shown {w} {r} {q} e =
 
 pub goes-unread : {w r : List ℕ} → r ≡ padded 64 0 [] → Goes w w r Malformed
 unfolding step answerWords
-goes-unread e = record { first = refl; long = refl; answers = λ k x h. record { words = e; stands = h; sound = k } }
+goes-unread e =
+    record {
+      first = refl;
+      long = refl;
+      unread = λ _. refl;
+      left = λ _ _ _ _. refl;
+      answers = λ k x h. record { words = e; stands = h; sound = k };
+    }
 
 -- .. by its kind
 pub goes-of : {w w′ r : List ℕ} (ws : List ℕ) {k j : RecordKind} {y : Record} → k ≡ checkedKind ws → k ≡ j → y ≡ recordOf j ws → Goes w w′ r y

@@ -41,3 +41,12 @@ unfoldable pub answerWords : Answer → List ℕ
 answerWords Listed = padded 1 0 []
 answerWords (Tells out) = encode out
 answerWords Unread = padded 64 0 []
+
+-- the answers to records, each on what the one before left, and what they leave
+unfoldable pub answersFrom : Standing → List Record → List Answer
+answersFrom s [] = []
+answersFrom s (r ∷ rs) = step s r .answer ∷ answersFrom (step s r .standing) rs
+
+unfoldable pub standingAfter : Standing → List Record → Standing
+standingAfter s [] = s
+standingAfter s (r ∷ rs) = standingAfter (step s r .standing) rs

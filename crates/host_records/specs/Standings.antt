@@ -1,5 +1,6 @@
 -- Where lent words stand between two records, and what a record leaves and is answered.
 use Prim.Native.Nat.{ℕ}
+use mathlib.Core.Bool.{false}
 use mathlib.Core.List.{List}
 use mathlib.Core.Path.{_≡_}
 use lib.ListN.{length, getD}
@@ -7,9 +8,10 @@ use Rattle.model.specs.declared.Capability.{Capability}
 use Rattle.model.specs.declared.Presence.{Presence}
 use Rattle.model.specs.declared.Presence.the-variants.{Present}
 use Rattle.model.specs.declared.Receipt.{Receipt}
-use Rattle.rules.specs.Protocol.{Reading, Output, bookIn, shown}
+use Rattle.rules.specs.Log.{tookEffect}
+use Rattle.rules.specs.Protocol.{Input, Reading, Output, react, bookIn, shown}
 use Rattle.decide_read.specs.Shown.{capabilitySays, receiptSays}
-use Rattle.format.specs.Decode.{Record}
+use Rattle.format.specs.Decode.{Record, Feeds, Malformed}
 use Rattle.format.specs.Encode.{encode}
 use Rattle.decide_start.specs.Starts.{Listing}
 use Rattle.runtime.specs.Stages.{phaseIn, RuntimeSound}
@@ -42,3 +44,6 @@ pub record Goes (w w′ r : List ℕ) (i : Record) : Type 0 where
   pub first : getD w′ 0 0 ≡ getD w 0 0
   pub long : length w′ ≡ length w
   pub answers : RuntimeSound (runtimeIn w) → (x : Standing) → Stands w x → Answered w′ r (step x i)
+  -- what is malformed leaves every word; so do a reading, and what is turned away
+  pub unread : i ≡ Malformed → w′ ≡ w
+  pub left : RuntimeSound (runtimeIn w) → (x : Input) → i ≡ Feeds x → tookEffect (react (phaseIn (runtimeIn w)) x .output) ≡ false → w′ ≡ w

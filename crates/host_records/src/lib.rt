@@ -253,7 +253,7 @@ fn receipt_shown_words(shown: ReceiptShown) -> [u64; 26]
     }
 }
 
-fn reading_words(state: &[u64], kind: ReadingKind, words: [u64; 16]) -> [u64; 26]
+pub fn reading_words(state: &[u64], kind: ReadingKind, words: [u64; 16]) -> [u64; 26]
     requires { ⌜ Long (now state) ⌝ }
     ensures { λ r. ⌜ (RuntimeSound (runtimeIn (now (state .entry))) → ReadsAs (now (state .entry)) r (readingOf kind words)) ⌝ }
 {
@@ -273,7 +273,7 @@ fn reading_words(state: &[u64], kind: ReadingKind, words: [u64; 16]) -> [u64; 26
 
 // records ----------------------------------------------------------------------------------------------------------------
 
-fn presence_if(there: bool) -> Presence
+pub fn presence_if(there: bool) -> Presence
     ensures { λ r. ⌜ r ≡ cond there Present Absent ⌝ }
 {
     if there {

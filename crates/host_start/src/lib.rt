@@ -155,7 +155,7 @@ fn mark_resources(state: &[u64], count: usize) -> [bool; 8]
 // the words --------------------------------------------------------------------------------------------------------------
 
 // Nothing of an earlier life is left.
-fn clear(state: &mut [u64])
+pub fn clear(state: &mut [u64])
     requires { ⌜ Long (now state) ⌝ }
     ensures { λ _. ⌜ Clears (now (state .entry)) (now (state .exit)) ⌝ }
 {

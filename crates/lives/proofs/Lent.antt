@@ -37,7 +37,7 @@ moves : {rt : Runtime} {answer : Answer} {x : Reaction} → Moves rt answer x �
 moves m = record { output = m .output; phase = m .phase; fit = m .sound }
 
 -- a reading leaves the phase, whatever it is
-reads : (p : Phase) (q : Reading) → react p (Reads q) ≡ record { output = shownRule q (bookIn p); phase = p }
+pub reads : (p : Phase) (q : Reading) → react p (Reads q) ≡ record { output = shownRule q (bookIn p); phase = p }
 unfolding react apply effect
 reads p q = refl
 
@@ -66,7 +66,7 @@ demand-3-over-a-lent-runtime = claim-of lifeOf _ _ faithful same-end
 -- what is turned away ----------------------------------------------------------------------------------------------------
 
 -- an answer that says of no effect is one that turns away
-away : (a : Answer) (s : State) → tookEffect (outputOf a s) ≡ false → turnsAway a ≡ true
+pub away : (a : Answer) (s : State) → tookEffect (outputOf a s) ≡ false → turnsAway a ≡ true
 unfolding outputOf tookEffect
 away Answer.Returned s e = absurd (false≢true (sym e))
 away Answer.Unraised s e = absurd (false≢true (sym e))

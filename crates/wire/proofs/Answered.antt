@@ -14,11 +14,11 @@ use Rattle.words.proofs.Over.{length-over, over-over, over-nil}
 use Rattle.words.proofs.Ends.{length-bytesOf}
 use Rattle.format.specs.Decode.{Record, decode}
 use Rattle.format.specs.Encode.{padded}
-use Rattle.host_records.specs.Records.{Standing, opening, Answer, step, answerWords}
+use Rattle.host_records.specs.Records.{Standing, opening, Answer, answersFrom, standingAfter, step, answerWords}
 use Rattle.runtime.specs.Stages.{RuntimeSound}
 use Rattle.layout.specs.Layout.{runtimeIn}
 use Rattle.host_records.specs.Standings.{Stands, Answered, Goes}
-use Rattle.wire.specs.Wire.{recordsIn, answersFrom, standingAfter, answerBytes, runs, isShort, shortBytes, written}
+use Rattle.wire.specs.Wire.{recordsIn, answerBytes, runs, isShort, shortBytes, written}
 use Rattle.wire.proofs.Zeros.{zero-at, zeros-sound, zeros-stand}
 
 answers-more : (s : Standing) (rs : List Record) (r : Record)

@@ -1,4 +1,3 @@
 pub mod Answered
 pub mod Rooms
-pub mod Theorem
 pub mod Zeros

@@ -7,21 +7,12 @@ use lib.ListN.{length}
 use Rattle.words.specs.Words.{recordAt, bytesOf}
 use Rattle.format.specs.Decode.{Record, decode}
 use Rattle.format.specs.Encode.{padded}
-use Rattle.host_records.specs.Records.{Standing, opening, Answer, step, answerWords}
+use Rattle.host_records.specs.Records.{opening, Answer, answersFrom, answerWords}
 
 -- the first records of an input, each 128 bytes
 unfoldable pub recordsIn : List ℕ → ℕ → List Record
 recordsIn bs zero = []
 recordsIn bs (suc n) = recordsIn bs n ++ (decode (recordAt bs (128 * n)) ∷ [])
-
--- the answers to records, each on what the one before left, and what they leave
-unfoldable pub answersFrom : Standing → List Record → List Answer
-answersFrom s [] = []
-answersFrom s (r ∷ rs) = step s r .answer ∷ answersFrom (step s r .standing) rs
-
-unfoldable pub standingAfter : Standing → List Record → Standing
-standingAfter s [] = s
-standingAfter s (r ∷ rs) = standingAfter (step s r .standing) rs
 
 -- the bytes of answers, each 208
 unfoldable pub answerBytes : List Answer → List ℕ

@@ -11,8 +11,8 @@ ghost use Prim.Native.Nat.{_+_, _*_, _≤_, min};
 ghost use lib.ListN.{length};
 ghost use Rattle.words.specs.Words.{bytesOf, over};
 ghost use Rattle.format.specs.Encode.{padded};
-ghost use Rattle.host_records.specs.Records.{opening};
-ghost use Rattle.wire.specs.Wire.{recordsIn, answersFrom, answerBytes, written};
+ghost use Rattle.host_records.specs.Records.{opening, answersFrom};
+ghost use Rattle.wire.specs.Wire.{recordsIn, answerBytes, written};
 
 fn lesser(a: usize, b: usize) -> usize
     ensures { λ r. ⌜ r ≡ min a b ⌝ }

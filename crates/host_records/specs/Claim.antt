@@ -1,13 +1,17 @@
--- Demand 3 of the byte entry: the lives that records are, and what is answered to them.
+-- Demand 3 of records (00), and of a host that steps by them: the lives that records are, and what is answered to them.
+use Prim.Native.Nat.{ℕ}
 use mathlib.Core.List.{List, [], _∷_, _++_, map}
 use mathlib.Core.Path.{_≡_}
 use Rattle.model.specs.declared.Capability.{Capability}
 use Rattle.rules.specs.Protocol.{Input, Output, Gone}
 use Rattle.rules.specs.Lives.{Life, outputs, outputsFrom}
 use Rattle.rules.specs.Demands.{Demands}
+use Rattle.rules.specs.Lists.{Distinct}
 use Rattle.format.specs.Decode.{Record, Lists, Starts, Feeds, Malformed}
-use Rattle.host_records.specs.Records.{opening, Answer, Listed, Tells, Unread}
-use Rattle.wire.specs.Wire.{answersFrom}
+use Rattle.layout.specs.Layout.{runtimeIn}
+use Rattle.runtime.specs.Stages.{RuntimeSound}
+use Rattle.host_records.specs.Records.{Standing, opening, Answer, Listed, Tells, Unread, answersFrom, standingAfter, answerWords}
+use Rattle.host_records.specs.Standings.{Stands, Goes}
 
 -- the calls, replies and readings up to the next start
 unfoldable pub inputsOf : List Record → List Input
@@ -44,8 +48,22 @@ unfoldable pub joined : List (List Output) → List Output
 joined [] = []
 joined (l ∷ ls) = l ++ joined ls
 
-pub record WireClaim (rs : List Record) : Type 0 where
+pub record RecordsClaim (rs : List Record) : Type 0 where
   -- what is answered are the outputs of the lives, after those of the inputs before the first start, where there is no runtime
   pub same : outputsIn (answersFrom opening rs) ≡ outputsFrom Gone (inputsOf rs) ++ joined (map outputs (livesIn rs))
-  -- and all that is claimed holds of these lives
-  pub demands : Demands (livesIn rs)
+  -- and all that is claimed holds of these lives, if no two have the same boot number
+  pub demands : Distinct (map (λ l. l .start .bootId) (livesIn rs)) → Demands (livesIn rs)
+
+-- a host that steps --------------------------------------------------------------------------------------------------------
+
+-- records in order, each on the words that the one before left, with the words of their answers
+pub data Stepping : List ℕ → List Record → List (List ℕ) → List ℕ → Type 0 where
+  here : {w : List ℕ} → Stepping w [] [] w
+  then : {w w′ last words : List ℕ} {r : Record} {rs : List Record} {outs : List (List ℕ)}
+      → Goes w w′ words r → Stepping w′ rs outs last → Stepping w (r ∷ rs) (words ∷ outs) last
+
+-- where it began sound, it is told the answers and stands where they leave it, and is sound
+pub record SteppedTo (s : Standing) (rs : List Record) (outs : List (List ℕ)) (last : List ℕ) : Type 0 where
+  pub told : outs ≡ map answerWords (answersFrom s rs)
+  pub stands : Stands last (standingAfter s rs)
+  pub sound : RuntimeSound (runtimeIn last)
