@@ -1,10 +1,10 @@
-//! The tables against docs/WIRE.md and rolthai.h.
+//! The tables against docs/WIRE.md and bindings/c/rolthai.h.
 
 use wire::format::layout::{Field, InputKind, OutputKind, Type, CAPABILITY, LEASE, RECEIPT};
 use wire::format::{INPUT_BYTES, OUTPUT_BYTES};
 
 const DOCUMENT: &str = include_str!("../../../docs/WIRE.md");
-const HEADER: &str = include_str!("../rolthai.h");
+const HEADER: &str = include_str!("../../../bindings/c/rolthai.h");
 
 /// The rows of the table under a heading: the number and the other cells.
 fn rows(heading: &str) -> Vec<(u64, Vec<&'static str>)> {
@@ -185,5 +185,26 @@ fn the_header_has_the_same_sizes() {
     for (name, bytes) in [("INPUT", INPUT_BYTES), ("OUTPUT", OUTPUT_BYTES)] {
         let line = format!("#define ROLTHAI_{name}_BYTES {bytes}u");
         assert!(HEADER.lines().any(|l| l == line), "{line}");
+    }
+}
+
+/// A list of words: the fields from a place on.
+fn words(fields: &[Field], first: u64) -> Vec<(String, u64)> {
+    (fields.iter().map(|field| upper(field.name)).zip(first..)).collect()
+}
+
+#[test]
+fn the_header_has_the_same_words() {
+    for (prefix, fields, first) in [
+        ("ROLTHAI_START_", InputKind::Start.fields(), 0),
+        ("ROLTHAI_CAPABILITY_", CAPABILITY, 0),
+        ("ROLTHAI_REQUEST_", InputKind::Acquire.fields(), 0),
+        ("ROLTHAI_ORDER_", InputKind::Submit.fields(), 0),
+        ("ROLTHAI_CONFIG_", OutputKind::Config.fields(), 2),
+        ("ROLTHAI_SNAPSHOT_", OutputKind::Snapshot.fields(), 2),
+        ("ROLTHAI_LEASE_", LEASE, 2),
+        ("ROLTHAI_RECEIPT_", RECEIPT, 2),
+    ] {
+        assert_eq!(constants(prefix), words(fields, first), "{prefix}");
     }
 }

@@ -1,7 +1,7 @@
 /* Case C of 01 (examples/order.life) through the proved code: owner 7 leases axis 0 and drives it, sends the same order
    again, and lets the watchdog run out. Prints a line for each record: the kind that goes in, the kind that comes out,
    and its number. */
-#include "../rolthai.h"
+#include "../../../bindings/c/rolthai.h"
 
 #include <inttypes.h>
 #include <stdio.h>
