@@ -1,13 +1,14 @@
 //! A host that goes by the engine's own answers: it replies to what is handed out, and reads what
 //! there is to read after each call.
 
+use crate::lent::Lent;
 use crate::log::Entry;
 use definitions::turns::{Reading, Reply};
 use oracle::driver::Item;
 use oracle::life::{Life, Reply as Scripted};
 use oracle::runtime_core::Observation;
 use wire::batch::Run;
-use wire::engine::Engine;
+use wire::engine::{linked, Engine};
 use wire::format::{Input, Opening, Output, INPUT_BYTES, OUTPUT_BYTES};
 use wire::machine::{Machine, Running};
 use wire::play::{Cut, Plan};
@@ -38,7 +39,15 @@ impl Stage for Machine {
     }
 }
 
-/// The proved code.
+/// The proved code; none in a build without it.
+pub fn proved() -> Option<Box<dyn Stage>> {
+    match wire::host::linked() {
+        Some(host) => Some(Box::new(Lent::new(host))),
+        None => linked().map(|engine| Box::new(Proved(engine)) as Box<dyn Stage>),
+    }
+}
+
+/// The proved code by a byte entry: the test entry sets counters, and takes whole inputs.
 pub struct Proved(pub Box<dyn Engine>);
 
 impl Engine for Proved {
@@ -53,7 +62,7 @@ impl Stage for Proved {
     }
 }
 
-/// An engine runs whole inputs: each record is answered by running all so far once more.
+/// A byte entry runs whole inputs: each record is answered by running all so far once more.
 pub struct Again<'a> {
     engine: &'a mut dyn Engine,
     input: Vec<u8>,

@@ -7,7 +7,7 @@ use std::process::ExitCode;
 use std::time::Instant;
 use tester::campaign::Campaign;
 use tester::facts::{judge, FACTS};
-use tester::host::{Proved, Stage};
+use tester::host::{proved, Stage};
 use tester::log::Entry;
 use tester::options::{Command, Task, USAGE};
 use tester::picture::picture;
@@ -15,12 +15,11 @@ use tester::plant::Planted;
 use tester::report;
 use tester::runs::{run, Request, Summary};
 use tester::trial::{differences, Trial};
-use wire::engine::linked;
 use wire::machine::Machine;
 use wire::play::Plan;
 
 const NO_ENGINE: &str =
-    "this build has no proved code: build it with `--features linked`, or say --rust";
+    "this build has no proved code: build it with `--features host`, or say --rust";
 const NO_COUNTERS: &str = "counters need the build with `--features counters`";
 
 fn main() -> ExitCode {
@@ -40,7 +39,7 @@ fn main() -> ExitCode {
 
 /// Whether everything passed.
 fn perform(command: &Command) -> io::Result<bool> {
-    if !command.rust && command.plant.is_none() && linked().is_none() {
+    if !command.rust && command.plant.is_none() && proved().is_none() {
         return Err(io::Error::other(NO_ENGINE));
     }
     let counters = match &command.task {
@@ -72,9 +71,9 @@ fn perform(command: &Command) -> io::Result<bool> {
 
 /// What is tested: the proved code or the Rust, or the Rust with a planted fault.
 fn stage(command: &Command) -> Box<dyn Stage> {
-    match (command.plant, linked().filter(|_| !command.rust)) {
+    match (command.plant, proved().filter(|_| !command.rust)) {
         (Some(plant), _) => Box::new(Planted(plant)),
-        (None, Some(proved)) => Box::new(Proved(proved)),
+        (None, Some(proved)) => proved,
         (None, None) => Box::new(Machine::default()),
     }
 }

@@ -134,17 +134,17 @@ fn a_bad_file_is_named_with_its_line() {
     assert!(text(&run.stderr).contains("bad.life:2:"));
 }
 
-#[cfg(not(feature = "linked"))]
+#[cfg(not(any(feature = "linked", feature = "host")))]
 #[test]
 fn nothing_is_run_without_an_archive() {
     for line in ["cuts --lives 1".into(), format!("run {}", example())] {
         let run = run(&line);
         assert_eq!(run.status.code(), Some(2));
-        assert!(text(&run.stderr).contains("--features linked"));
+        assert!(text(&run.stderr).contains("--features host"));
     }
 }
 
-#[cfg(feature = "linked")]
+#[cfg(any(feature = "linked", feature = "host"))]
 #[test]
 fn the_proved_code_passes() {
     for campaign in Campaign::ALL {

@@ -4,6 +4,11 @@
 pub trait Engine {
     /// Runs the input records and writes an output record for each; the number of bytes written.
     fn run(&mut self, input: &[u8], output: &mut [u8]) -> usize;
+
+    /// What it saw by itself to be wrong in its last run, the first time.
+    fn complaint(&self) -> Option<&str> {
+        None
+    }
 }
 
 /// The proved code, from the archive that is linked.

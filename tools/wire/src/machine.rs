@@ -149,6 +149,11 @@ impl Running {
         }
     }
 
+    /// The item whose reply is awaited.
+    pub fn awaited(&self) -> Option<&Item> {
+        self.wait.as_ref().map(|wait| &wait.item)
+    }
+
     /// What comes out for an input.
     pub fn react(&mut self, input: &Input) -> Output {
         let skips = std::mem::replace(&mut self.skips, false);

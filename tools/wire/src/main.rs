@@ -4,17 +4,21 @@ use std::fs;
 use std::io::{self, Write};
 use std::path::Path;
 use std::process::ExitCode;
+use std::sync::Arc;
 use std::time::Instant;
 use wire::batch::Run;
 use wire::compare::{compare, MakeEngine, Request};
-use wire::engine;
+use wire::engine::{self, Engine};
 use wire::format::OUTPUT_BYTES;
+use wire::host;
 use wire::lives::{self, Lives};
 use wire::options::{Command, Many, USAGE};
 use wire::report;
+use wire::stepping::{Stepping, Tally};
 use wire::vectors;
 
 const NO_ENGINE: &str = "this build has no proved code: build it with `--features linked`";
+const NO_HOST: &str = "this build can't step: build it with `--features linked,host`";
 const NO_COUNTERS: &str = "--counters needs the build with `--features counters`";
 
 fn main() -> ExitCode {
@@ -38,8 +42,12 @@ fn run(command: &Command) -> io::Result<bool> {
         Command::Compare(_) | Command::Check { .. } if engine::linked().is_none() => {
             Err(io::Error::other(NO_ENGINE))
         }
-        Command::Compare(many) => run_lives(many, &engine::linked),
-        Command::Count(many) => run_lives(many, &|| None),
+        Command::Compare(many) => run_lives(many, &engine::linked, &String::new),
+        Command::Step(_) if engine::linked().is_none() || host::linked().is_none() => {
+            Err(io::Error::other(NO_HOST))
+        }
+        Command::Step(many) => step(many),
+        Command::Count(many) => run_lives(many, &|| None, &String::new),
         Command::Vectors {
             seed,
             lives,
@@ -57,7 +65,17 @@ fn run(command: &Command) -> io::Result<bool> {
     }
 }
 
-fn run_lives(many: &Many, make: MakeEngine<'_>) -> io::Result<bool> {
+/// The functions over lent words beside the byte entry and the Rust.
+fn step(many: &Many) -> io::Result<bool> {
+    let tally = Arc::new(Tally::default());
+    let make = || {
+        let stepping = Stepping::new(host::linked()?, engine::linked(), tally.clone());
+        Some(Box::new(stepping) as Box<dyn Engine>)
+    };
+    run_lives(many, &make, &|| tally.to_string())
+}
+
+fn run_lives(many: &Many, make: MakeEngine<'_>, more: &dyn Fn() -> String) -> io::Result<bool> {
     if many.counters && !oracle::HAS_COUNTERS {
         return Err(io::Error::other(NO_COUNTERS));
     }
@@ -73,6 +91,7 @@ fn run_lives(many: &Many, make: MakeEngine<'_>) -> io::Result<bool> {
     let began = Instant::now();
     let summary = compare(&request, make);
     say(&report::summary(&request, &summary, began.elapsed()))?;
+    say(&more())?;
     let Some(mut engine) = make() else {
         say("nothing was compared\n")?;
         return Ok(true);

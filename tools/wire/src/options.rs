@@ -4,11 +4,13 @@ use std::path::PathBuf;
 
 pub const USAGE: &str = "\
 usage: wire compare --seed S --calls N [--threads T] [--counters]
+       wire step --seed S --calls N [--threads T]
        wire count --seed S --calls N [--threads T] [--counters]
        wire vectors --seed S --lives N DIR
        wire check DIR
        wire encode LIFE DIR
   compare   runs random lives of at least N calls on the proved code and compares with the Rust
+  step      the same lives record by record and call by call over lent words, with readings between
   count     makes and counts these lives, and compares nothing
   vectors   writes stored vectors of at most N lives into a new or empty folder
   check     runs stored vectors on the proved code
@@ -22,6 +24,7 @@ usage: wire compare --seed S --calls N [--threads T] [--counters]
 #[derive(Clone, Debug, PartialEq, Eq)]
 pub enum Command {
     Compare(Many),
+    Step(Many),
     Count(Many),
     Vectors {
         seed: u64,
@@ -68,6 +71,10 @@ impl Command {
         let given = Given::read(arguments)?;
         match name.as_str() {
             "compare" => Some(Self::Compare(given.many()?)),
+            "step" => {
+                let many = given.many().filter(|many| !many.counters);
+                many.map(Self::Step)
+            }
             "count" => Some(Self::Count(given.many()?)),
             "vectors" => given.vectors(),
             "check" => given.check(),

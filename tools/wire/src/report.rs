@@ -108,9 +108,14 @@ fn difference(shrunk: &Shrunk) -> String {
         // Writing to a text never fails.
         let _ = writeln!(text, "  {name:<16} {value}");
     };
+    if let Some(complaint) = &shrunk.complaint {
+        row("seen", complaint.clone());
+    }
     row("demanded", in_fields(shrunk.demanded));
     row("got", in_fields(shrunk.got));
-    if let (Some(demanded), Some(got)) = (shrunk.demanded, shrunk.got) {
+    let fields = shrunk.demanded.zip(shrunk.got);
+    // Where the engine complains, no record was written.
+    if let Some((demanded, got)) = fields.filter(|_| shrunk.complaint.is_none()) {
         for [name, demanded, got] in show::differences(&demanded, &got) {
             row(&name, format!("demanded {demanded}, got {got}"));
         }

@@ -23,6 +23,8 @@ pub struct Shrunk {
     pub demanded: Option<OutputWords>,
     /// None if it was not written.
     pub got: Option<OutputWords>,
+    /// What the engine itself saw to be wrong.
+    pub complaint: Option<String>,
 }
 
 /// Shrinks the last life of a list, with those before it as far as they matter. None if there
@@ -245,6 +247,7 @@ impl Shrinker<'_> {
             turns,
             demanded: record(&batch.demanded, place),
             got: run.record(place),
+            complaint: self.engine.complaint().map(String::from),
         })
     }
 }

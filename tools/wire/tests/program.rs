@@ -20,6 +20,7 @@ fn arguments() {
         Some(Command::Compare(many))
     );
     assert_eq!(read("count --calls 5 --seed 1"), Some(Command::Count(many)));
+    assert_eq!(read("step --seed 1 --calls 5"), Some(Command::Step(many)));
     let more = Many {
         threads: Some(3),
         counters: true,
@@ -51,6 +52,8 @@ fn bad_arguments() {
         "compare --seed 1 --seed 1 --calls 5",
         "compare --seed 1 --calls 5 folder",
         "compare --seed 1 --calls 5 --lives 2",
+        "step --seed 1",
+        "step --seed 1 --calls 5 --counters",
         "count --seed 1 --lives 5",
         "vectors --seed 1 --lives 5",
         "vectors --seed 1 --calls 5 folder",
@@ -106,6 +109,23 @@ fn nothing_is_compared_without_an_archive() {
         assert_eq!(run.status.code(), Some(2));
         assert!(text(&run.stderr).contains("--features linked"));
     }
+}
+
+#[cfg(not(all(feature = "linked", feature = "host")))]
+#[test]
+fn nothing_is_stepped_without_the_archives() {
+    let run = run("step --seed 1 --calls 100");
+    assert_eq!(run.status.code(), Some(2));
+    assert!(text(&run.stderr).contains("--features linked,host"));
+}
+
+#[cfg(all(feature = "linked", feature = "host", not(feature = "counters")))]
+#[test]
+fn it_steps_with_the_archives() {
+    let run = run("step --seed 1 --calls 2000");
+    let said = text(&run.stdout);
+    assert_eq!(run.status.code(), Some(0), "{said}");
+    assert!(said.ends_with(" passed, 0 failed\n"));
 }
 
 #[cfg(feature = "linked")]
