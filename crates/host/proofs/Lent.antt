@@ -47,8 +47,8 @@ is-size {n} {b} e h = eqb-true n 2464 (sym e ∙ not-false b h)
 pub other-size : (n : ℕ) {b : Bool} → b ≡ eqb n 2464 → not b ≡ true → n ≡ 2464 → ⊥
 other-size n {b} e h = eqb-false n 2464 (sym e ∙ not-true b h)
 
-pub some-words : {n : ℕ} {b : Bool} → b ≡ eqb n 2464 → not b ≡ false → 0 < n
-some-words {n} e h = let k = is-size {n = n} e h in omega (arith, k)
+pub word-there : {k n : ℕ} {b : Bool} → k < 2464 → b ≡ eqb n 2464 → not b ≡ false → k < n
+word-there {n = n} l e h = let s = is-size {n = n} e h in omega (arith, l, s)
 
 pub fault-short : (w : List ℕ) → (length w ≡ 2464 → ⊥) → 65 ≡ faultOf w
 unfolding faultOf

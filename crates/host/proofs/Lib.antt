@@ -1,3 +1,4 @@
 pub mod Lent
+pub mod Sentences
 pub mod Starting
 pub mod Theorem

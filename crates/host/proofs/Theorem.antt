@@ -26,7 +26,7 @@ use Rattle.lives.proofs.Lent.{reads, away}
 use Rattle.lives.proofs.Theorem.{claim-of}
 use Rattle.host_records.specs.Records.{opening}
 use Rattle.host_records.specs.Standings.{Goes}
-use Rattle.host_records.specs.Claim.{Stepping, SteppedTo, here as stepped, then as and-on}
+use Rattle.host_records.specs.Claim.{begunBy, Stepping, SteppedTo, here as stepped, then as and-on}
 use Rattle.host_records.proofs.Theorem.{stepped-to}
 use Rattle.host.specs.Host.{faultOf, numberOf, startIn, Served, Asks, Made, Wipes}
 use Rattle.host.specs.Claim.{HostStep, called, replied, shown, HostLife, outputsOf, lifeOf, HostClaim, Whole, RecordSteps, none, one-more}
@@ -179,8 +179,8 @@ records-from-cleared {w} {w′} h p run =
     let c = p .wiped h .1 in
     stepped-to opening (c .sound) (record { listing = c .listed; phase = c .phase }) (by-records (sym (fault-none w′ (c .long ∙ h) (c .first))) run)
 
--- .. and from a start by `rolthai_new` on
+-- .. and from a start by `rolthai_new` on, of which `demand-3-after-a-start` speaks
 pub records-from-new : (c : HostLife) {last : List ℕ} {rs : List Record} {outs : List (List ℕ)} → RecordSteps (c .first) rs outs last
-    → SteppedTo (record { listed = []; phase = startRule (startIn (c .start) (c .capabilities)) .phase }) rs outs last
+    → SteppedTo (begunBy (startIn (c .start) (c .capabilities))) rs outs last
 records-from-new c run =
     stepped-to _ (begun c .sound) (record { listing = made c .listed; phase = begun c .phase }) (by-records (fit-first c .lent) run)

@@ -19,7 +19,7 @@ use Rattle.model.specs.declared.Submission.{Submission}
 use Rattle.receipts.specs.Blank.{blank}
 use Rattle.cells.proofs.Regions.{length-table}
 use Rattle.rules.specs.Log.{tookEffect}
-use Rattle.rules.specs.Protocol.{Item, ItemObserve, ItemExecute, ItemFallback, ItemRecord, Input, Reads, Reading, Phase, Reaction, effect, apply, react}
+use Rattle.rules.specs.Protocol.{Item, ItemObserve, ItemExecute, ItemFallback, ItemRecord, Input, Calls, Replies, Reads, Reading, Phase, Reaction, effect, apply, react}
 use Rattle.rules.specs.Protocol as Protocol
 use Rattle.state.specs.State.{Hand, Asked, itemAt, itemOf, outputOf}
 use Rattle.state.specs.declared.Answer.{Answer}
@@ -31,8 +31,10 @@ use Rattle.state.specs.declared.Waiting.{Waiting}
 use Rattle.decide_reply.specs.Replies.{observationIf}
 use Rattle.decide_start.specs.Starts.{Listing, startOn}
 use Rattle.decide_start.specs.declared.Listed.{Listed}
-use Rattle.format.specs.Decode.{Record, Lists, Starts, Feeds, Malformed, capabilityOf, checkedKind, recordOf}
+use Rattle.format.specs.Decode.{Record, Lists, Starts, Feeds, Malformed, capabilityOf, turnOf, checkedKind, recordOf}
 use Rattle.format.specs.declared.RecordKind.{RecordKind}
+use Rattle.format.specs.declared.TurnKind.{TurnKind}
+use Rattle.format.specs.declared.TurnKind.the-variants as Turn
 use Rattle.format.specs.Encode.{padded, itemWords, encode}
 use Rattle.rows.proofs.Codes.{below-less}
 use Rattle.runtime.specs.declared.Runtime.{Runtime}
@@ -101,6 +103,28 @@ isFed (Starts c b n f) = false
 isFed (Feeds y) = true
 isFed Malformed = false
 
+abbrev isReading : Input → Bool
+isReading (Calls c) = false
+isReading (Replies r) = false
+isReading (Reads q) = true
+
+-- a call or a reply is no reading
+pub no-reading : (k : TurnKind) (ws : List ℕ) → isReading (turnOf k ws) ≡ false
+unfolding turnOf
+no-reading Turn.Tick ws = refl
+no-reading Turn.UpdateState ws = refl
+no-reading Turn.EmergencyStop ws = refl
+no-reading Turn.PollEstop ws = refl
+no-reading Turn.RecoverLocal ws = refl
+no-reading Turn.Acquire ws = refl
+no-reading Turn.Renew ws = refl
+no-reading Turn.Cancel ws = refl
+no-reading Turn.Submit ws = refl
+no-reading Turn.Observed ws = refl
+no-reading Turn.Executed ws = refl
+no-reading Turn.FellBack ws = refl
+no-reading Turn.Recorded ws = refl
+
 abbrev isRead : Record → Bool
 isRead (Lists c) = true
 isRead (Starts c b n f) = true
@@ -118,14 +142,15 @@ answered e n m p =
       sound = m .sound;
     }
 
-pub goes-fed : {w w′ r : List ℕ} {answer : Answer} {i : Input} → Steps w w′ answer i
+pub goes-fed : {w w′ r : List ℕ} {answer : Answer} {i : Input} → Steps w w′ answer i → isReading i ≡ false
     → (RuntimeSound (runtimeIn w′) → r ≡ encode (outputOf answer (stateIn (runtimeIn w′)))) → Goes w w′ r (Feeds i)
 unfolding step
-goes-fed {w} {w′} {answer = answer} {i = i} s e =
+goes-fed {w} {w′} {answer = answer} {i = i} s turns e =
     record {
       first = s .same .first;
       long = s .same .long;
       unread = λ q. absurd (false≢true (sym (ap isRead q)));
+      read = λ x q. absurd (false≢true (sym turns ∙ ap (λ (y : Record). isReading (fedOr i y)) q));
       left =
           λ k y q z.
           s .unaltered k (away answer (stateIn (runtimeIn w′)) (ap tookEffect (s .moves k .output) ∙ (ap (λ (j : Input). tookEffect (react (phaseIn (runtimeIn w)) j .output)) (ap (fedOr i) q) ∙ z)));
@@ -159,6 +184,7 @@ goes-begun {w} boot time m e f g =
       first = any .first;
       long = any .long;
       unread = λ q. absurd (false≢true (sym (ap isRead q)));
+      read = λ y q. absurd (false≢true (ap isFed q));
       left = λ k y q. absurd (false≢true (ap isFed q));
       answers = λ k x h. let made = m (x .listed) (h .listing) in answered e (made .listed) (made .moves) (rw (f, g));
     }
@@ -170,6 +196,7 @@ goes-listed m e =
       first = m .first;
       long = m .long;
       unread = λ q. absurd (false≢true (sym (ap isRead q)));
+      read = λ y q. absurd (false≢true (ap isFed q));
       left = λ k y q. absurd (false≢true (ap isFed q));
       answers =
           λ k x h.
@@ -186,7 +213,8 @@ goes-shown {w} {r} {q} e =
     record {
       first = refl;
       long = refl;
-      unread = λ _. refl;
+      unread = λ x. absurd (false≢true (sym (ap isRead x)));
+      read = λ _ _. refl;
       left = λ _ _ _ _. refl;
       answers =
           λ k x h.
@@ -203,7 +231,8 @@ goes-unread e =
     record {
       first = refl;
       long = refl;
-      unread = λ _. refl;
+      unread = λ _. (e, refl);
+      read = λ _ _. refl;
       left = λ _ _ _ _. refl;
       answers = λ k x h. record { words = e; stands = h; sound = k };
     }

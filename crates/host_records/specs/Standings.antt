@@ -9,14 +9,14 @@ use Rattle.model.specs.declared.Presence.{Presence}
 use Rattle.model.specs.declared.Presence.the-variants.{Present}
 use Rattle.model.specs.declared.Receipt.{Receipt}
 use Rattle.rules.specs.Log.{tookEffect}
-use Rattle.rules.specs.Protocol.{Input, Reading, Output, react, bookIn, shown}
+use Rattle.rules.specs.Protocol.{Input, Reading, Reads, Output, react, bookIn, shown}
 use Rattle.decide_read.specs.Shown.{capabilitySays, receiptSays}
 use Rattle.format.specs.Decode.{Record, Feeds, Malformed}
 use Rattle.format.specs.Encode.{encode}
 use Rattle.decide_start.specs.Starts.{Listing}
 use Rattle.runtime.specs.Stages.{phaseIn, RuntimeSound}
 use Rattle.layout.specs.Layout.{runtimeIn, listingIn}
-use Rattle.host_records.specs.Records.{Standing, RecordStep, step, answerWords}
+use Rattle.host_records.specs.Records.{Standing, RecordStep, Unread, step, answerWords}
 
 -- what is listed for the next start, and the phase of the life in hand
 pub record Stands (w : List ℕ) (x : Standing) : Type 0 where
@@ -44,6 +44,7 @@ pub record Goes (w w′ r : List ℕ) (i : Record) : Type 0 where
   pub first : getD w′ 0 0 ≡ getD w 0 0
   pub long : length w′ ≡ length w
   pub answers : RuntimeSound (runtimeIn w) → (x : Standing) → Stands w x → Answered w′ r (step x i)
-  -- what is malformed leaves every word; so do a reading, and what is turned away
-  pub unread : i ≡ Malformed → w′ ≡ w
+  -- what is malformed is answered so and leaves every word, whatever the words are; a reading leaves them too, and what is turned away those of a sound runtime
+  pub unread : i ≡ Malformed → (r ≡ answerWords Unread) × (w′ ≡ w)
+  pub read : (q : Reading) → i ≡ Feeds (Reads q) → w′ ≡ w
   pub left : RuntimeSound (runtimeIn w) → (x : Input) → i ≡ Feeds x → tookEffect (react (phaseIn (runtimeIn w)) x .output) ≡ false → w′ ≡ w

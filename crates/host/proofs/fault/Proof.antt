@@ -1,5 +1,6 @@
 use borrow.Author.Needs.{needs}
-use Rattle.host.proofs.Lent.{is-size, other-size, some-words, fault-short, fault-other, fault-none}
+use native.Mathlib.Omega.{arith}
+use Rattle.host.proofs.Lent.{is-size, other-size, word-there, fault-short, fault-other, fault-none}
 use Rattle.host.proofs.fault.Statement.{statement}
 use Rattle.host.proofs.fault.Tie as tie
 
@@ -9,7 +10,7 @@ returns c =
 
 shared-slice-read-if2 : tie.Need-shared-slice-read-if2
 shared-slice-read-if2 c =
-    some-words (c .before .before .is-whole .ensures) (c .before .if1 .left)
+    word-there (omega arith) (c .before .before .is-whole .ensures) (c .before .if1 .left)
 
 returns-2 : tie.Need-returns-2
 returns-2 c =

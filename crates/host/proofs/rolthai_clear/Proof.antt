@@ -1,6 +1,7 @@
 use borrow.Author.Needs.{needs}
+use native.Mathlib.Omega.{arith}
 use mathlib.Core.Path.{refl, _∙_}
-use Rattle.host.proofs.Lent.{is-size, other-size, some-words}
+use Rattle.host.proofs.Lent.{is-size, other-size, word-there}
 use Rattle.host.proofs.Starting.{enough-set, enough-then, is-wiped, wipes-short, wipes, as-many}
 use Rattle.host.proofs.rolthai_clear.Statement.{statement}
 use Rattle.host.proofs.rolthai_clear.Tie as tie
@@ -11,7 +12,7 @@ returns c =
 
 slice-write-state : tie.Need-slice-write-state
 slice-write-state c =
-    some-words (c .before .is-whole .ensures) (c .if1 .left)
+    word-there (omega arith) (c .before .is-whole .ensures) (c .if1 .left)
 
 clear-requires : tie.Need-clear-requires
 clear-requires c κs =

@@ -1,6 +1,7 @@
 use borrow.Author.Needs.{needs}
 use borrow.Author.Tests.{not-true, not-false}
-use Rattle.host.proofs.Lent.{is-size, other-size, some-words}
+use native.Mathlib.Omega.{arith}
+use Rattle.host.proofs.Lent.{is-size, other-size, word-there}
 use mathlib.Core.Path.{refl, sym, _∙_}
 use Rattle.host.proofs.Starting.{enough-set, enough-then, as-many, begins-short, begins-unread, begins-with, nine-words}
 use Rattle.host.proofs.rolthai_new.Statement.{statement}
@@ -20,7 +21,7 @@ start-record-requires c κs =
 
 slice-write-state : tie.Need-slice-write-state
 slice-write-state c =
-    some-words (c .before .before .before .before .is-whole .ensures) (c .before .before .before .if1 .left)
+    word-there (omega arith) (c .before .before .before .before .is-whole .ensures) (c .before .before .before .if1 .left)
 
 unlist-requires : tie.Need-unlist-requires
 unlist-requires c κs =
