@@ -21,7 +21,7 @@ const BEFORE: u64 = 100;
 const TIMED: u64 = 1_000;
 const ROUNDS: usize = 100;
 
-const BOOT: u64 = 1;
+pub const BOOT: u64 = 1;
 pub const OWNER: u64 = 7;
 /// The time of every call but an idle tick.
 pub const NOW: u64 = 1;
@@ -36,7 +36,7 @@ const ACQUIRE: Input = Input::Call(Call::Acquire {
     request: REQUEST,
     now: NOW,
 });
-const SEEN: Observation = Observation {
+pub const SEEN: Observation = Observation {
     parameters: [5, 6],
     state: 0,
 };
