@@ -1,6 +1,6 @@
 // The runtime's calls and replies over lent words (crate `runtime`, "calls" and "replies of the driver"): who is heard. Promises: whatever the words hold,
 // as many and the same first one; where they are a sound runtime's, its start included, they stand where the rules say, and what is turned away leaves
-// every word. Rests on `host_steps` and on `decide_start`.
+// every word. Rests on `host_steps`, `host_replies` and `decide_start`.
 use decide_flags::is_seen;
 use decide_reply::Observed;
 use decide_start::Stage;
@@ -11,13 +11,13 @@ use decide_start::tried;
 use decide_start::turned_away;
 use decide_start::unheard;
 use decide_tick::Begun;
+use host_replies::executed_on;
+use host_replies::fell_back_on;
+use host_replies::observed_on;
+use host_replies::recorded_on;
 use host_steps::begin;
 use host_steps::cancel_on;
-use host_steps::executed_on;
-use host_steps::fell_back_on;
-use host_steps::observed_on;
 use host_steps::poll;
-use host_steps::recorded_on;
 use host_steps::run;
 use host_steps::stop;
 use host_steps::supervise;
