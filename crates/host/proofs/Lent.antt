@@ -1,15 +1,17 @@
 -- Lent words that are as they have to be, or not, and what is promised then. Assumes nothing.
 use Prim.Native.Nat.{ℕ, _%_, _≤_, _<_}
-use mathlib.Core.Bool.{Bool, true, false, false≢true, cond, not}
+use mathlib.Core.Bool.{Bool, true, false, false≢true, cond, not, _&&_, and-true}
 use mathlib.Core.List.{List, [], _∷_}
 use mathlib.Core.Option.{Option, some, none}
 use mathlib.Core.Path.{_≡_, refl, sym, ap, ap₂, _∙_, subst}
 use native.Mathlib.Nat.{mod-eq-of-lt}
 use native.Mathlib.Omega.{arith}
-use borrow.Author.Tests.{lt-ltb, le-ltb, eq-eqb, ne-eqb, ltb-false, eqb-true, eqb-false, not-true, not-false}
-use lib.Dec.{eqb, ltb}
+use borrow.Author.Tests.{lt-ltb, le-ltb, le-leb, eq-eqb, ne-eqb, ltb-false, eqb-true, eqb-false, not-true, not-false}
+use lib.Dec.{eqb, ltb, leb}
 use lib.IntN.{ℤ}
 use lib.ListN.{length, getD}
+use mir.Syntax.{w64}
+use mir.Val.{Fits}
 use Rattle.model.specs.Reasons.{number}
 use Rattle.model.specs.declared.LeaseRequest.{LeaseRequest}
 use Rattle.model.specs.declared.Observation.{Observation}
@@ -23,9 +25,10 @@ use Rattle.state.specs.State.{outputOf}
 use Rattle.state.specs.declared.Answer.{Answer}
 use Rattle.state.specs.declared.Answer.the-variants as Answer
 use Rattle.format.specs.Decode.{Record, Feeds, Malformed, word, requestOf, submissionOf, turnOf, recordOf, checkedKind, decode}
-use Rattle.format.specs.Kinds.{kindAt, lookup, kinds, limitsOf, within}
+use Rattle.format.specs.Kinds.{kindAt, lookup, kinds, turnLimits, limitsOf, within}
 use Rattle.format.specs.declared.RecordKind.{RecordKind}
 use Rattle.format.specs.declared.RecordKind.the-variants as Kind
+use Rattle.format.specs.declared.TurnKind.{TurnKind}
 use Rattle.format.specs.declared.TurnKind.the-variants as Turn
 use Rattle.cells.specs.Cells.{part}
 use Rattle.format.specs.Encode.{encode}
@@ -192,6 +195,42 @@ pub asked-submit : (f : List ℕ) → length f ≡ 15 → isKnown (checkedKind (
 unfolding recordOf turnOf kindAt lookup kinds
 asked-submit f e u = asked-known 24 15 f e u
 
+-- a test of a word by itself -----------------------------------------------------------------------------------------------
+
+-- a word is never above what 64 bits hold
+wide : {x : ℕ} → Fits w64 x → leb x 18446744073709551615 ≡ true
+wide {x} h = let l : x < 18446744073709551616 = h .fits in le-leb x 18446744073709551615 (omega (arith, l))
+
+known-turn : (b : Bool) (t : TurnKind) → isKnown (cond b (Kind.Turn t) Kind.Unknown) ≡ b
+known-turn true t = refl
+known-turn false t = refl
+
+-- the words of a request and of an order that can be above what their fields hold
+abbrev pub requestFits : List ℕ → Bool
+requestFits f =
+    leb (getD f 2 0) 255 && (leb (getD f 4 0) 4294967295 && (leb (getD f 5 0) 4294967295 && (leb (getD f 6 0) 4294967295 && (leb (getD f 7 0) 4294967295 && (leb (getD f 8 0) 4294967295)))))
+
+abbrev pub orderFits : List ℕ → Bool
+orderFits f =
+    leb (getD f 8 0) 65535 && (leb (getD f 12 0) 4294967295 && (leb (getD f 13 0) 4294967295 && (leb (getD f 14 0) 4294967295)))
+
+request-within : (f : List ℕ) → ((i : ℕ) → Fits w64 (getD f i 0)) → within (recordWith 21 f 0 9) (turnLimits Turn.Acquire) ≡ requestFits f
+unfolding within turnLimits part
+request-within f k = rw (wide (k 0), wide (k 1), wide (k 3), and-true (leb (getD f 8 0) 4294967295))
+
+order-within : (f : List ℕ) → ((i : ℕ) → Fits w64 (getD f i 0)) → within (recordWith 24 f 0 15) (turnLimits Turn.Submit) ≡ orderFits f
+unfolding within turnLimits part
+order-within f k =
+    rw (wide (k 0), wide (k 1), wide (k 2), wide (k 3), wide (k 4), wide (k 5), wide (k 6), wide (k 7), wide (k 9), wide (k 10), wide (k 11), and-true (leb (getD f 14 0) 4294967295))
+
+pub request-known : (f : List ℕ) → ((i : ℕ) → Fits w64 (getD f i 0)) → isKnown (checkedKind (recordWith 21 f 0 9)) ≡ requestFits f
+unfolding checkedKind kindAt lookup kinds limitsOf
+request-known f k = known-turn (within (recordWith 21 f 0 9) (turnLimits Turn.Acquire)) Turn.Acquire ∙ request-within f k
+
+pub order-known : (f : List ℕ) → ((i : ℕ) → Fits w64 (getD f i 0)) → isKnown (checkedKind (recordWith 24 f 0 15)) ≡ orderFits f
+unfolding checkedKind kindAt lookup kinds limitsOf
+order-known f k = known-turn (within (recordWith 24 f 0 15) (turnLimits Turn.Submit)) Turn.Submit ∙ order-within f k
+
 -- what is promised -------------------------------------------------------------------------------------------------------
 
 module _ {w w′ : List ℕ} {f r : ℕ} {i : Record} (e : f ≡ faultOf w) where
@@ -228,23 +267,21 @@ observes {w} {w′} {a = a} {p = p} {v = v} {u = u} {v′ = v′} {u′ = u′} 
 
 -- .. of a slice whose words were read
 pub acquires : {w w′ words : List ℕ} (f : List ℕ) {n r : ℕ} {q : LeaseRequest} {b : Bool} {a : Answer} → n ≡ faultOf w → n ≡ 0 → length f ≡ 9
-    → words ≡ recordWith 21 f 0 9 → b ≡ isKnown (checkedKind words) → b ≡ true → q ≡ requestOf words
+    → b ≡ isKnown (checkedKind (recordWith 21 f 0 9)) → b ≡ true → words ≡ recordWith 21 f 0 9 → q ≡ requestOf words
     → Steps w w′ a (Calls (Acquire q (word words 1))) → r ≡ numberOf a → Asks w w′ r (asked 21 9 f)
-acquires {w} {w′} {words} f {a = a} e z l is k y q s m =
-    is-served e z (asked-acquire f l (sym (k ∙ ap (λ (ws : List ℕ). isKnown (checkedKind ws)) is) ∙ y))
+acquires {w} {w′} {words} f {a = a} e z l k y is q s m =
+    is-served e z (asked-acquire f l (sym k ∙ y))
     (subst (λ (ws : List ℕ). Steps w w′ a (Calls (Acquire (requestOf ws) (word ws 1)))) is (subst (λ (x : LeaseRequest). Steps w w′ a (Calls (Acquire x (word words 1)))) q s)) m
 
 pub submits : {w w′ words : List ℕ} (f : List ℕ) {n r : ℕ} {q : Submission} {b : Bool} {a : Answer} → n ≡ faultOf w → n ≡ 0 → length f ≡ 15
-    → words ≡ recordWith 24 f 0 15 → b ≡ isKnown (checkedKind words) → b ≡ true → q ≡ submissionOf words
+    → b ≡ isKnown (checkedKind (recordWith 24 f 0 15)) → b ≡ true → words ≡ recordWith 24 f 0 15 → q ≡ submissionOf words
     → Steps w w′ a (Calls (Submit q)) → r ≡ numberOf a → Asks w w′ r (asked 24 15 f)
-submits {w} {w′} f {a = a} e z l is k y q s m =
-    is-served e z (asked-submit f l (sym (k ∙ ap (λ (ws : List ℕ). isKnown (checkedKind ws)) is) ∙ y))
-    (subst (λ (x : Submission). Steps w w′ a (Calls (Submit x))) (q ∙ ap submissionOf is) s) m
+submits {w} {w′} f {a = a} e z l k y is q s m =
+    is-served e z (asked-submit f l (sym k ∙ y)) (subst (λ (x : Submission). Steps w w′ a (Calls (Submit x))) (q ∙ ap submissionOf is) s) m
 
-pub unread-of : {w w′ words : List ℕ} (kind k : ℕ) (f : List ℕ) {n r : ℕ} {b : Bool} → n ≡ faultOf w → n ≡ 0 → length f ≡ k → words ≡ recordWith kind f 0 k
-    → b ≡ isKnown (checkedKind words) → b ≡ false → r ≡ 64 → w′ ≡ w → Asks w w′ r (asked kind k f)
-unread-of kind k f e z l is q ne =
-    not-read e z (asked-unread kind k f l (sym (q ∙ ap (λ (ws : List ℕ). isKnown (checkedKind ws)) is) ∙ ne))
+pub unread-of : {w w′ : List ℕ} (kind k : ℕ) (f : List ℕ) {n r : ℕ} {b : Bool} → n ≡ faultOf w → n ≡ 0 → length f ≡ k
+    → b ≡ isKnown (checkedKind (recordWith kind f 0 k)) → b ≡ false → r ≡ 64 → w′ ≡ w → Asks w w′ r (asked kind k f)
+unread-of kind k f e z l q ne = not-read e z (asked-unread kind k f l (sym q ∙ ne))
 
 -- what a host is told ----------------------------------------------------------------------------------------------------
 

@@ -345,6 +345,29 @@ pub extern "C" fn rolthai_recover_local(state: &mut [u64], time: u64) -> u32
     number_of(recover_local(state, time))
 }
 
+// No word of a slice of 9 is above what its field can hold.
+fn is_request(f: &[u64]) -> bool
+    requires { ⌜ length (now f) ≡ 9 ⌝ }
+    ensures { λ r. ⌜ r ≡ isKnown (checkedKind (recordWith 21 (now (f .entry)) 0 9)) ⌝ }
+{
+    if f[2] > 255 {
+        return false;
+    }
+    if f[4] > 4294967295 {
+        return false;
+    }
+    if f[5] > 4294967295 {
+        return false;
+    }
+    if f[6] > 4294967295 {
+        return false;
+    }
+    if f[7] > 4294967295 {
+        return false;
+    }
+    f[8] <= 4294967295
+}
+
 fn acquire_record(f: &[u64]) -> [u64; 16]
     requires { ⌜ length (now f) ≡ 9 ⌝ }
     ensures { λ r. ⌜ r ≡ recordWith 21 (now (f .entry)) 0 9 ⌝ }
@@ -381,10 +404,10 @@ pub extern "C" fn rolthai_acquire(state: &mut [u64], request: &[u64]) -> u32
     if request.len() != 9 {
         return 64;
     }
-    let words = acquire_record(request);
-    if !is_read(words) {
+    if !is_request(request) {
         return 64;
     }
+    let words = acquire_record(request);
     number_of(acquire(state, request_of(words), words[1]))
 }
 
@@ -424,6 +447,23 @@ pub extern "C" fn rolthai_cancel(state: &mut [u64], owner: u64, lease: u64, time
     number_of(cancel(state, owner, lease, time))
 }
 
+// .. of a slice of 15
+fn is_order(f: &[u64]) -> bool
+    requires { ⌜ length (now f) ≡ 15 ⌝ }
+    ensures { λ r. ⌜ r ≡ isKnown (checkedKind (recordWith 24 (now (f .entry)) 0 15)) ⌝ }
+{
+    if f[8] > 65535 {
+        return false;
+    }
+    if f[12] > 4294967295 {
+        return false;
+    }
+    if f[13] > 4294967295 {
+        return false;
+    }
+    f[14] <= 4294967295
+}
+
 fn submit_record(f: &[u64]) -> [u64; 16]
     requires { ⌜ length (now f) ≡ 15 ⌝ }
     ensures { λ r. ⌜ r ≡ recordWith 24 (now (f .entry)) 0 15 ⌝ }
@@ -460,10 +500,10 @@ pub extern "C" fn rolthai_submit(state: &mut [u64], order: &[u64]) -> u32
     if order.len() != 15 {
         return 64;
     }
-    let words = submit_record(order);
-    if !is_read(words) {
+    if !is_order(order) {
         return 64;
     }
+    let words = submit_record(order);
     number_of(submit(state, submission_of(words)))
 }
 

@@ -22,7 +22,6 @@ use decide_read::retained;
 use decide_read::slot_of;
 use decide_read::snapshot_shown;
 use decide_read::state_shown;
-use decide_read::submitted_of;
 use host_store::is_numbered;
 use layout::axis_in;
 use layout::capability_at;
@@ -46,6 +45,7 @@ use model::Reason;
 use model::Receipt;
 use receipts::Index;
 use runtime::axis_or_spare;
+use state::AfterRecord;
 ghost use Rattle.decide_read.specs.Shown.{shownItem};
 ghost use Rattle.rules.specs.Interaction.{Leased};
 ghost use Rattle.rules.specs.Protocol.{awaitedIn, Answers, ReadEpoch, ReadBootId, ReadFlags, ReadReceiptCount};
@@ -94,9 +94,14 @@ pub fn answered_receipt(state: &[u64]) -> Receipt
     ensures { λ r. ⌜ outputOf Answered.Submitted (stateIn (runtimeIn (now (state .entry)))) ≡ Answers (Submitted r) ⌝ }
 {
     let waiting = waiting_in(state);
-    let receipt = receipt_at(state, slot_in(state));
-    let kept = submitted_in(state);
-    submitted_of(waiting, receipt, kept)
+    let after = waiting.after_record;
+    match after {
+        AfterRecord::Fallback => submitted_in(state),
+        AfterRecord::Lease => submitted_in(state),
+        AfterRecord::Executed => receipt_at(state, slot_in(state)),
+        AfterRecord::Failed => receipt_at(state, slot_in(state)),
+        AfterRecord::Rejected => receipt_at(state, slot_in(state)),
+    }
 }
 
 pub fn refusal(state: &[u64]) -> Reason

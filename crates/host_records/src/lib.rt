@@ -121,26 +121,27 @@ fn answer_words(state: &[u64], answer: Answer) -> [u64; 26]
     requires { ⌜ Long (now state) ⌝ }
     ensures { λ r. ⌜ (RuntimeSound (runtimeIn (now (state .entry))) → r ≡ encode (outputOf answer (stateIn (runtimeIn (now (state .entry)))))) ⌝ }
 {
-    match answer {
-        Answer::Returned => plain_words(32, 0),
-        Answer::Unraised => plain_words(33, 0),
-        Answer::Raised => plain_words(33, 1),
-        Answer::Succeeded => plain_words(34, 0),
-        Answer::Leased => lease_words(35, 0, answered_lease(state)),
-        Answer::Refused => plain_words(36, reason_number(refusal(state))),
-        Answer::Submitted => receipt_words(37, 0, answered_receipt(state)),
-        Answer::Item => item_words(state, 0),
-        Answer::ReplyAwaited => item_words(state, 111),
-        Answer::OtherAwaited => item_words(state, 113),
-        Answer::NoReplyAwaited => plain_words(5, 112),
-        Answer::NoRuntime => plain_words(4, 0),
-        Answer::Started => plain_words(2, 0),
-        Answer::InvalidBootId => plain_words(3, 101),
-        Answer::InvalidConfig => plain_words(3, 102),
-        Answer::InvalidCapability => plain_words(3, 103),
-        Answer::DuplicateCapability => plain_words(3, 104),
-        Answer::StartupFailed => plain_words(3, 105),
-    }
+    let number = match answer {
+        Answer::Returned => return plain_words(32, 0),
+        Answer::Unraised => return plain_words(33, 0),
+        Answer::Raised => return plain_words(33, 1),
+        Answer::Succeeded => return plain_words(34, 0),
+        Answer::Leased => return lease_words(35, 0, answered_lease(state)),
+        Answer::Refused => return plain_words(36, reason_number(refusal(state))),
+        Answer::Submitted => return receipt_words(37, 0, answered_receipt(state)),
+        Answer::Item => 0,
+        Answer::ReplyAwaited => 111,
+        Answer::OtherAwaited => 113,
+        Answer::NoReplyAwaited => return plain_words(5, 112),
+        Answer::NoRuntime => return plain_words(4, 0),
+        Answer::Started => return plain_words(2, 0),
+        Answer::InvalidBootId => return plain_words(3, 101),
+        Answer::InvalidConfig => return plain_words(3, 102),
+        Answer::InvalidCapability => return plain_words(3, 103),
+        Answer::DuplicateCapability => return plain_words(3, 104),
+        Answer::StartupFailed => return plain_words(3, 105),
+    };
+    item_words(state, number)
 }
 
 // readings ---------------------------------------------------------------------------------------------------------------

@@ -15,7 +15,7 @@ returns-2 c =
 
 returns-3 : tie.Need-returns-3
 returns-3 c =
-    unread-of _ _ _ (c .before .before .before .before .before .fault .ensures) (c .before .before .before .before .if1 .left) (c .before .before .before .if2 .left) (c .before .before .acquire-record .ensures) (c .before .is-read .ensures) (not-true _ (c .if3 .taken)) refl refl
+    unread-of _ _ _ (c .before .before .before .before .fault .ensures) (c .before .before .before .if1 .left) (c .before .before .if2 .left) (c .before .is-request .ensures) (not-true _ (c .if3 .taken)) refl refl
 
 acquire-requires : tie.Need-acquire-requires
 acquire-requires c κs =
@@ -23,7 +23,7 @@ acquire-requires c κs =
 
 returns-4 : tie.Need-returns-4
 returns-4 c =
-    acquires _ (c .before .before .before .before .before .before .before .before .before .before .before .fault .ensures) (c .before .before .before .before .before .before .before .before .before .before .if1 .left) (c .before .before .before .before .before .before .before .before .before .if2 .left) (c .before .before .before .before .before .before .before .before .acquire-record .ensures) (c .before .before .before .before .before .before .before .is-read .ensures) (not-false _ (c .before .before .before .before .before .before .if3 .left)) (c .before .before .before .before .request-of .ensures) (c .before .before .before .acquire .ensures) (c .number-of .ensures)
+    acquires _ (c .before .before .before .before .before .before .before .before .before .before .before .fault .ensures) (c .before .before .before .before .before .before .before .before .before .before .if1 .left) (c .before .before .before .before .before .before .before .before .before .if2 .left) (c .before .before .before .before .before .before .before .before .is-request .ensures) (not-false _ (c .before .before .before .before .before .before .before .if3 .left)) (c .before .before .before .before .before .before .acquire-record .ensures) (c .before .before .before .before .request-of .ensures) (c .before .before .before .acquire .ensures) (c .number-of .ensures)
 
 pub rolthai-acquire-spec : {M : Type 1} → statement M
 rolthai-acquire-spec =
@@ -35,9 +35,9 @@ rolthai-acquire-spec =
     (λ c. search needs)
     returns-2
     (λ c κs. search needs)
-    (λ c κs. search needs)
     (λ c. search needs)
     returns-3
+    (λ c κs. search needs)
     (λ c κs. search needs)
     (λ c. search needs)
     acquire-requires

@@ -15,7 +15,7 @@ returns-2 c =
 
 returns-3 : tie.Need-returns-3
 returns-3 c =
-    unread-of _ _ _ (c .before .before .before .before .before .fault .ensures) (c .before .before .before .before .if1 .left) (c .before .before .before .if2 .left) (c .before .before .submit-record .ensures) (c .before .is-read .ensures) (not-true _ (c .if3 .taken)) refl refl
+    unread-of _ _ _ (c .before .before .before .before .fault .ensures) (c .before .before .before .if1 .left) (c .before .before .if2 .left) (c .before .is-order .ensures) (not-true _ (c .if3 .taken)) refl refl
 
 submit-requires : tie.Need-submit-requires
 submit-requires c κs =
@@ -23,7 +23,7 @@ submit-requires c κs =
 
 returns-4 : tie.Need-returns-4
 returns-4 c =
-    submits _ (c .before .before .before .before .before .before .before .before .before .before .before .fault .ensures) (c .before .before .before .before .before .before .before .before .before .before .if1 .left) (c .before .before .before .before .before .before .before .before .before .if2 .left) (c .before .before .before .before .before .before .before .before .submit-record .ensures) (c .before .before .before .before .before .before .before .is-read .ensures) (not-false _ (c .before .before .before .before .before .before .if3 .left)) (c .before .before .before .before .submission-of .ensures) (c .before .before .before .submit .ensures) (c .number-of .ensures)
+    submits _ (c .before .before .before .before .before .before .before .before .before .before .before .fault .ensures) (c .before .before .before .before .before .before .before .before .before .before .if1 .left) (c .before .before .before .before .before .before .before .before .before .if2 .left) (c .before .before .before .before .before .before .before .before .is-order .ensures) (not-false _ (c .before .before .before .before .before .before .before .if3 .left)) (c .before .before .before .before .before .before .submit-record .ensures) (c .before .before .before .before .submission-of .ensures) (c .before .before .before .submit .ensures) (c .number-of .ensures)
 
 pub rolthai-submit-spec : {M : Type 1} → statement M
 rolthai-submit-spec =
@@ -35,9 +35,9 @@ rolthai-submit-spec =
     (λ c. search needs)
     returns-2
     (λ c κs. search needs)
-    (λ c κs. search needs)
     (λ c. search needs)
     returns-3
+    (λ c κs. search needs)
     (λ c κs. search needs)
     submit-requires
     (λ c κs. search needs)

@@ -1,5 +1,6 @@
 use Prim.Native.Nat.{ℕ}
 use mathlib.Core.List.{[]}
+use mathlib.Core.Logic.{⊎-elim}
 use mathlib.Core.Path.{sym, ap, _∙_}
 use Rattle.state.specs.State.{outputOf}
 use Rattle.format.specs.Encode.{bit, padded, answerWords, encode}
@@ -64,20 +65,11 @@ receipt-words-requires c κs = search needs
 enum-told-8 : tie.Need-enum-told-8
 enum-told-8 c = search needs
 
-item-words-requires : tie.Need-item-words-requires
-item-words-requires c κs = search needs
-
 enum-told-9 : tie.Need-enum-told-9
 enum-told-9 c = search needs
 
-item-words-requires-2 : tie.Need-item-words-requires-2
-item-words-requires-2 c κs = search needs
-
 enum-told-10 : tie.Need-enum-told-10
 enum-told-10 c = search needs
-
-item-words-requires-3 : tie.Need-item-words-requires-3
-item-words-requires-3 c κs = search needs
 
 enum-told-11 : tie.Need-enum-told-11
 enum-told-11 c = search needs
@@ -127,6 +119,9 @@ enum-told-18 c = search needs
 plain-words-requires-13 : tie.Need-plain-words-requires-13
 plain-words-requires-13 c κs = search needs
 
+item-words-requires : tie.Need-item-words-requires
+item-words-requires c κs = search needs
+
 returns : tie.Need-returns
 unfolding encode answerWords bit outputOf
 returns c = λ good. rw (c .before .enum-told .given .1) (c .plain-words .ensures)
@@ -160,47 +155,44 @@ returns-7 c =
 
 returns-8 : tie.Need-returns-8
 unfolding encode answerWords bit outputOf
-returns-8 c = λ good. rw (c .before .enum-told8 .given .1) (c .item-words .ensures)
+returns-8 c = λ good. rw (c .before .enum-told11 .given .1) (c .plain-words6 .ensures)
 
 returns-9 : tie.Need-returns-9
 unfolding encode answerWords bit outputOf
-returns-9 c = λ good. rw (c .before .enum-told9 .given .1) (c .item-words2 .ensures)
+returns-9 c = λ good. rw (c .before .enum-told12 .given .1) (c .plain-words7 .ensures)
 
 returns-10 : tie.Need-returns-10
 unfolding encode answerWords bit outputOf
-returns-10 c = λ good. rw (c .before .enum-told10 .given .1) (c .item-words3 .ensures)
+returns-10 c = λ good. rw (c .before .enum-told13 .given .1) (c .plain-words8 .ensures)
 
 returns-11 : tie.Need-returns-11
 unfolding encode answerWords bit outputOf
-returns-11 c = λ good. rw (c .before .enum-told11 .given .1) (c .plain-words6 .ensures)
+returns-11 c = λ good. rw (c .before .enum-told14 .given .1) (c .plain-words9 .ensures)
 
 returns-12 : tie.Need-returns-12
 unfolding encode answerWords bit outputOf
-returns-12 c = λ good. rw (c .before .enum-told12 .given .1) (c .plain-words7 .ensures)
+returns-12 c = λ good. rw (c .before .enum-told15 .given .1) (c .plain-words10 .ensures)
 
 returns-13 : tie.Need-returns-13
 unfolding encode answerWords bit outputOf
-returns-13 c = λ good. rw (c .before .enum-told13 .given .1) (c .plain-words8 .ensures)
+returns-13 c = λ good. rw (c .before .enum-told16 .given .1) (c .plain-words11 .ensures)
 
 returns-14 : tie.Need-returns-14
 unfolding encode answerWords bit outputOf
-returns-14 c = λ good. rw (c .before .enum-told14 .given .1) (c .plain-words9 .ensures)
+returns-14 c = λ good. rw (c .before .enum-told17 .given .1) (c .plain-words12 .ensures)
 
 returns-15 : tie.Need-returns-15
 unfolding encode answerWords bit outputOf
-returns-15 c = λ good. rw (c .before .enum-told15 .given .1) (c .plain-words10 .ensures)
+returns-15 c = λ good. rw (c .before .enum-told18 .given .1) (c .plain-words13 .ensures)
 
 returns-16 : tie.Need-returns-16
 unfolding encode answerWords bit outputOf
-returns-16 c = λ good. rw (c .before .enum-told16 .given .1) (c .plain-words11 .ensures)
-
-returns-17 : tie.Need-returns-17
-unfolding encode answerWords bit outputOf
-returns-17 c = λ good. rw (c .before .enum-told17 .given .1) (c .plain-words12 .ensures)
-
-returns-18 : tie.Need-returns-18
-unfolding encode answerWords bit outputOf
-returns-18 c = λ good. rw (c .before .enum-told18 .given .1) (c .plain-words13 .ensures)
+returns-16 c =
+    λ good.
+    ⊎-elim
+    (λ w. rw (w .1 .given .1) (rw (w .2) at (c .item-words .ensures)))
+    (⊎-elim (λ w. rw (w .1 .given .1) (rw (w .2) at (c .item-words .ensures))) (λ w. rw (w .1 .given .1) (rw (w .2) at (c .item-words .ensures))))
+    (c .before .match .came)
 
 pub answer-words-spec : {M : Type 1} → statement M
 answer-words-spec =
@@ -208,59 +200,55 @@ answer-words-spec =
     (tie.spec
     enum-told
     plain-words-requires
+    returns
     enum-told-2
     plain-words-requires-2
+    returns-2
     enum-told-3
     plain-words-requires-3
+    returns-3
     enum-told-4
     plain-words-requires-4
+    returns-4
     enum-told-5
     answered-lease-requires
     lease-words-requires
+    returns-5
     enum-told-6
     refusal-requires
     reason-number-requires
     plain-words-requires-5
+    returns-6
     enum-told-7
     answered-receipt-requires
     receipt-words-requires
+    returns-7
     enum-told-8
-    item-words-requires
     enum-told-9
-    item-words-requires-2
     enum-told-10
-    item-words-requires-3
     enum-told-11
     plain-words-requires-6
+    returns-8
     enum-told-12
     plain-words-requires-7
+    returns-9
     enum-told-13
     plain-words-requires-8
+    returns-10
     enum-told-14
     plain-words-requires-9
+    returns-11
     enum-told-15
     plain-words-requires-10
+    returns-12
     enum-told-16
     plain-words-requires-11
+    returns-13
     enum-told-17
     plain-words-requires-12
+    returns-14
     enum-told-18
     plain-words-requires-13
-    returns
-    returns-2
-    returns-3
-    returns-4
-    returns-5
-    returns-6
-    returns-7
-    returns-8
-    returns-9
-    returns-10
-    returns-11
-    returns-12
-    returns-13
-    returns-14
     returns-15
-    returns-16
-    returns-17
-    returns-18)
+    item-words-requires
+    returns-16)
