@@ -1,2 +1,3 @@
+pub mod Accepted
 pub mod Claim
 pub mod Host
