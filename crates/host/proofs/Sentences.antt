@@ -2,12 +2,14 @@
 use Prim.Native.Nat.{ℕ, _<_}
 use mathlib.Core.Bool.{false}
 use mathlib.Core.List.{List}
-use mathlib.Core.Path.{_≡_, refl, sym, _∙_}
+use mathlib.Core.Path.{_≡_, refl, sym, ap, _∙_}
 use native.Mathlib.Omega.{arith}
 use lib.ListN.{length, getD}
-use Rattle.rules.specs.Protocol.{Output}
-use Rattle.format.specs.Decode.{Record, Malformed}
-use Rattle.host.specs.Host.{version, faultOf, lackOf, areAsked, Asks, Begins, Wipes, Tells, Refusal, Records}
+use Rattle.rules.specs.Protocol.{Output, Reading, Reads}
+use Rattle.cells.specs.Cells.{part, put}
+use Rattle.format.specs.Decode.{Record, Feeds, Malformed, decode}
+use Rattle.host_records.specs.Records.{Unread, answerWords}
+use Rattle.host.specs.Host.{version, faultOf, lackOf, faultAt, areAsked, Asks, Begins, Wipes, Tells, Refusal, Records}
 use Rattle.host.proofs.Lent.{fault-short, fault-other, lack-fault, lack-short, at-lack, at-short}
 
 -- a number that is not 0, and what it names
@@ -66,3 +68,13 @@ module _ {w w′ f out out′ : List ℕ} {r : ℕ} (p : Records w w′ f out ou
       let k = at-short w f out e refl h in
       let l = p .refused (named (omega arith) k) in
       (l .0 .0 ∙ sym k, (l .0 .1, l .1))
+
+  -- a malformed record of 16 words is answered as one, and alters nothing, whatever the words hold; a reading alters nothing either
+  pub malformed-record : faultAt w f out ≡ 0 → decode (part f 0 16) ≡ Malformed → (out′ ≡ put out 0 (answerWords Unread)) × (w′ ≡ w)
+  malformed-record e m =
+      let s = p .stepped e in
+      let l = s .goes .unread m in
+      (s .writes .words ∙ ap (put out 0) (l .0), l .1)
+
+  pub reading-record : faultAt w f out ≡ 0 → (q : Reading) → decode (part f 0 16) ≡ Feeds (Reads q) → w′ ≡ w
+  reading-record e q m = p .stepped e .goes .read q m
