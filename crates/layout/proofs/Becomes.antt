@@ -32,7 +32,7 @@ use Rattle.format.specs.Decode.{capabilityOf, requestOf, renewalOf, submissionO
 use Rattle.format.specs.Encode.{capabilityWords, leaseWords}
 use Rattle.rows.specs.Codes.{below, reasonOf}
 use Rattle.rows.specs.Rows.{waitingOf, waitingWords, fallingOf, fallingWords, revokedOf, revokedWords, carryingOf, carryingWords, pendingOf, pendingWords, startingOf, startingWords, numbersOf, numbersWords, fixedOf, fixedWords, leaseSlotOf, leaseSlotWords, capabilityRow, activeSlotOf, activeSlotWords, replaySlotOf, replaySlotWords, receiptOf, receiptRow, requestRow, renewalRow, submissionRow, indexOf, indexWords, Rowed}
-use Rattle.rows.proofs.Codes.{reason-back}
+use Rattle.format.proofs.FieldLaws.{reason-back}
 use Rattle.runtime.specs.declared.Runtime.{Runtime}
 use Rattle.runtime.specs.Kept.{emptied, idled}
 use Rattle.layout.specs.Fields.{withStarting, withWaiting, withNumbers, withCursor, withSlot, withAxis, withWhy, withFalling, withRevoked, withCarrying, withPending, withFixed, withIndex, withRejected, withOthers, withLeases, withActive, withCapabilities, withReplay, withSubmission, withRequest, withRenewal, withSubmitted, withSlots, receiptsTo}

@@ -6,18 +6,13 @@ use mathlib.Core.List.{List, [], _∷_}
 use mathlib.Core.Path.{_≡_, refl, sym, ap}
 use borrow.Author.Tests.{lt-ltb, le-ltb, ltb-true}
 use native.Mathlib.Omega.{arith}
-use lib.Dec.{eqb, ltb}
+use lib.Dec.{ltb}
 use lib.ListN.{getD, length}
-use Rattle.model.specs.declared.Decision.{Decision}
-use Rattle.model.specs.declared.Decision.the-variants as Decision
 use Rattle.model.specs.declared.Presence.{Presence}
 use Rattle.model.specs.declared.Presence.the-variants.{Absent, Present}
-use Rattle.model.specs.declared.Reason.{Reason}
-use Rattle.model.specs.declared.Reason.the-variants as Reason
 use Rattle.model.specs.declared.RuntimeState.{RuntimeState}
-use Rattle.model.specs.declared.RuntimeState.the-variants as State
-use Rattle.model.specs.Reasons.{number}
-use Rattle.format.specs.Encode.{bit, decisionNumber, stateNumber}
+use Rattle.format.specs.Encode.{stateNumber}
+use Rattle.format.proofs.FieldLaws.{state-back}
 use Rattle.state.specs.declared.AfterFallback.{AfterFallback}
 use Rattle.state.specs.declared.AfterFallback.the-variants as AfterFallback
 use Rattle.state.specs.declared.AfterRecord.{AfterRecord}
@@ -30,7 +25,7 @@ use Rattle.state.specs.declared.CallKind.{CallKind}
 use Rattle.state.specs.declared.CallKind.the-variants as CallKind
 use Rattle.decide_start.specs.declared.Stage.{Stage}
 use Rattle.decide_start.specs.declared.Stage.the-variants as Stage
-use Rattle.rows.specs.Codes.{below, presenceOf, presenceWord, decisionOf, reasonOf, modeOf, awaitedOf, awaitedWord, afterRecordOf, afterRecordWord, afterFallbackOf, afterFallbackWord, afterTripOf, afterTripWord, callKindOf, callKindWord, stageOf, stageWord}
+use Rattle.rows.specs.Codes.{below, presenceOf, presenceWord, modeOf, awaitedOf, awaitedWord, afterRecordOf, afterRecordWord, afterFallbackOf, afterFallbackWord, afterTripOf, afterTripWord, callKindOf, callKindWord, stageOf, stageWord}
 
 -- a word past the last case ----------------------------------------------------------------------------------------------
 
@@ -84,61 +79,14 @@ pub below-past : (n x : ℕ) → n ≤ x → below n x ≡ 0
 unfolding below
 below-past n x h = rw (le-ltb x n h)
 
-pub bit-back : (b : Bool) → eqb (bit b) 1 ≡ b
-unfolding bit
-bit-back false = refl
-bit-back true = refl
-
 -- cases ------------------------------------------------------------------------------------------------------------------
 
 pub presence-back : (x : Presence) → presenceOf (presenceWord x) ≡ x
 presence-back Absent = refl
 presence-back Present = refl
 
-pub decision-back : (x : Decision) → decisionOf (decisionNumber x) ≡ x
-unfolding decisionNumber
-decision-back Decision.Executed = refl
-decision-back Decision.Rejected = refl
-decision-back Decision.Fallback = refl
-decision-back Decision.Control = refl
-decision-back Decision.Failed = refl
-
-pub reason-back : (x : Reason) → reasonOf (number x) ≡ x
-reason-back Reason.Ok = refl
-reason-back Reason.Bound = refl
-reason-back Reason.Stale = refl
-reason-back Reason.Authority = refl
-reason-back Reason.Duplicate = refl
-reason-back Reason.Precondition = refl
-reason-back Reason.OldSequence = refl
-reason-back Reason.Epoch = refl
-reason-back Reason.UnknownCapability = refl
-reason-back Reason.TooEarly = refl
-reason-back Reason.Invalid = refl
-reason-back Reason.Estop = refl
-reason-back Reason.Faulted = refl
-reason-back Reason.Watchdog = refl
-reason-back Reason.LeaseExpired = refl
-reason-back Reason.StreamExpired = refl
-reason-back Reason.Driver = refl
-reason-back Reason.Verification = refl
-reason-back Reason.Clock = refl
-reason-back Reason.Busy = refl
-reason-back Reason.Canceled = refl
-reason-back Reason.InvalidStorm = refl
-reason-back Reason.StateStale = refl
-reason-back Reason.BootMismatch = refl
-reason-back Reason.LeaseGranted = refl
-reason-back Reason.LeaseRenewed = refl
-reason-back Reason.Recovered = refl
-reason-back Reason.Startup = refl
-
 pub mode-back : (x : RuntimeState) → modeOf (stateNumber x) ≡ x
-unfolding stateNumber
-mode-back State.SafeIdle = refl
-mode-back State.Armed = refl
-mode-back State.Faulted = refl
-mode-back State.Estopped = refl
+mode-back x = state-back x
 
 pub awaited-back : (x : Awaited) → awaitedOf (awaitedWord x) ≡ x
 awaited-back Awaited.Nothing = refl

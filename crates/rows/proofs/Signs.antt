@@ -34,7 +34,8 @@ use Rattle.model.specs.declared.Verification.{Verification}
 use Rattle.model.specs.declared.Verification.the-variants as Verification
 use Rattle.format.specs.Decode.{signed, boundsOf, classOf, verificationOf, capabilityOf, requestOf, renewalOf, actionOf, submissionOf}
 use Rattle.format.specs.Encode.{unsigned, partAt, minAt, maxAt, classNumber, verificationWord, maskWord, valueWord, capabilityWords, leaseWords}
-use Rattle.rows.proofs.Codes.{presence-back, decision-back, bit-back, reason-back}
+use Rattle.format.proofs.FieldLaws.{bit-back, decision-back, reason-back}
+use Rattle.rows.proofs.Codes.{presence-back}
 use Rattle.rows.specs.Codes.{paired, lowOf, highOf, signsOf, signsWord, presenceWord, decisionOf, reasonOf}
 use Rattle.rows.specs.Rows.{leaseSlotOf, leaseSlotWords, capabilityRow, activeSlotOf, activeSlotWords, replaySlotOf, replaySlotWords, receiptOf, receiptRow, requestRow, renewalRow, submissionRow}
 

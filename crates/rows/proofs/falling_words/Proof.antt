@@ -1,6 +1,7 @@
 use Rattle.state.specs.State.{InBounds}
 use Rattle.rows.specs.Rows.{fallingOf, fallingWords}
-use Rattle.rows.proofs.Codes.{below-back, bit-back, reason-back, after-fallback-back, after-trip-back}
+use Rattle.format.proofs.FieldLaws.{bit-back, reason-back}
+use Rattle.rows.proofs.Codes.{below-back, after-fallback-back, after-trip-back}
 use borrow.Author.Needs.{needs}
 use Rattle.rows.proofs.falling_words.Statement.{statement}
 use Rattle.rows.proofs.falling_words.Tie as tie

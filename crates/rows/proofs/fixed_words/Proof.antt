@@ -8,7 +8,8 @@ use lib.ListN.{getD, length}
 use Rattle.format.specs.Encode.{bit}
 use Rattle.state.specs.declared.Fixed.{Fixed}
 use Rattle.rows.specs.Rows.{fixedOf, fixedWords}
-use Rattle.rows.proofs.Codes.{below-back, bit-back, entries-back}
+use Rattle.format.proofs.FieldLaws.{bit-back}
+use Rattle.rows.proofs.Codes.{below-back, entries-back}
 use borrow.Author.Needs.{needs}
 use Rattle.rows.proofs.fixed_words.Statement.{statement}
 use Rattle.rows.proofs.fixed_words.Tie as tie

@@ -1,5 +1,5 @@
 use Rattle.rows.specs.Rows.{revokedOf, revokedWords}
-use Rattle.rows.proofs.Codes.{bit-back}
+use Rattle.format.proofs.FieldLaws.{bit-back}
 use borrow.Author.Needs.{needs}
 use Rattle.rows.proofs.revoked_words.Statement.{statement}
 use Rattle.rows.proofs.revoked_words.Tie as tie

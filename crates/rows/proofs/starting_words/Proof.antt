@@ -1,5 +1,6 @@
 use Rattle.rows.specs.Rows.{startingOf, startingWords}
-use Rattle.rows.proofs.Codes.{stage-back, bit-back}
+use Rattle.format.proofs.FieldLaws.{bit-back}
+use Rattle.rows.proofs.Codes.{stage-back}
 use borrow.Author.Needs.{needs}
 use Rattle.rows.proofs.starting_words.Statement.{statement}
 use Rattle.rows.proofs.starting_words.Tie as tie
