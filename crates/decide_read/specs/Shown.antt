@@ -18,8 +18,7 @@ use Rattle.model.specs.declared.Receipt.{Receipt}
 use Rattle.model.specs.declared.RuntimeState.{RuntimeState}
 use Rattle.model.specs.declared.RuntimeState.the-variants.{Faulted}
 use Rattle.model.specs.declared.Snapshot.{Snapshot}
-use Rattle.model.specs.Records.{noLease, noCapability}
-use Rattle.receipts.specs.Blank.{blank}
+use Rattle.model.specs.Records.{noLease, noCapability, noReceipt}
 use Rattle.receipts.specs.Indexes.{Points}
 use Rattle.receipts.specs.declared.Found.{Found}
 use Rattle.receipts.specs.declared.Found.the-variants as Found
@@ -140,7 +139,7 @@ abbrev pub slotBy : Noted → ℕ → ℕ → ℕ
 slotBy n rejected other = cond (ltb (n .rejected) 64) rejected (cond (ltb (n .others) 64) other 64)
 
 abbrev pub noReceiptIn : Presence → ReceiptShown
-noReceiptIn p = record { runtime = p; presence = Absent; receipt = blank }
+noReceiptIn p = record { runtime = p; presence = Absent; receipt = noReceipt }
 
 abbrev pub receiptAt : Bool → ℕ → Receipt → ReceiptShown
 receiptAt false slot r = noReceiptIn Absent
@@ -188,10 +187,10 @@ itemWith kind axis reason capability parameters receipt =
 
 -- an item of the rules, or none, with blanks for what it has not
 unfoldable pub shownItem : Option Protocol.Item → ItemShown
-shownItem none = itemWith ItemKind.Nothing 0 Ok 0 noParameters blank
-shownItem (some (ItemObserve axis)) = itemWith ItemKind.Observe axis Ok 0 noParameters blank
-shownItem (some (ItemExecute c ps)) = itemWith ItemKind.Execute 0 Ok c ps blank
-shownItem (some (ItemFallback axis reason)) = itemWith ItemKind.Fallback axis reason 0 noParameters blank
+shownItem none = itemWith ItemKind.Nothing 0 Ok 0 noParameters noReceipt
+shownItem (some (ItemObserve axis)) = itemWith ItemKind.Observe axis Ok 0 noParameters noReceipt
+shownItem (some (ItemExecute c ps)) = itemWith ItemKind.Execute 0 Ok c ps noReceipt
+shownItem (some (ItemFallback axis reason)) = itemWith ItemKind.Fallback axis reason 0 noParameters noReceipt
 shownItem (some (ItemRecord r)) = itemWith ItemKind.Record 0 Ok 0 noParameters r
 
 -- the awaited item by what is kept of it

@@ -14,7 +14,6 @@ use model::RuntimeState;
 use model::Snapshot;
 use receipts::Found;
 use receipts::Index;
-use receipts::blank_receipt;
 use receipts::place_of;
 use state::AfterRecord;
 use state::Awaited;
@@ -303,7 +302,7 @@ fn no_receipt(runtime: Presence) -> ReceiptShown
     ReceiptShown {
         runtime: runtime,
         presence: Presence::Absent,
-        receipt: blank_receipt(),
+        receipt: Receipt::blank(),
     }
 }
 
@@ -376,7 +375,7 @@ pub fn item_of(
 {
     let awaited = waiting.awaited;
     let none = [0; 2];
-    let blank = blank_receipt();
+    let blank = Receipt::blank();
     let reason = falling.reason;
     match awaited {
         Awaited::Nothing => item_with(ItemKind::Nothing, 0, Reason::Ok, 0, none, blank),

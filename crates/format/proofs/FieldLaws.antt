@@ -8,6 +8,8 @@ use mathlib.Core.Path.{_≡_, refl, ap, _∙_}
 use borrow.Author.Tests.{lt-ltb, le-ltb}
 use lib.Dec.{eqb}
 use lib.IntN.{ℤ, pos, negsuc}
+use Rattle.words.specs.Signs.{signed, unsigned}
+use Rattle.model.specs.Decisions.{decisionNumber}
 use Rattle.model.specs.Reasons.{number}
 use Rattle.model.specs.declared.Bounds.{Bounds}
 use Rattle.model.specs.declared.Decision.{Decision}
@@ -21,10 +23,11 @@ use Rattle.model.specs.declared.RuntimeState.the-variants as State
 use Rattle.model.specs.declared.Verification.{Verification}
 use Rattle.model.specs.declared.Verification.the-variants as Verification
 use Rattle.format.specs.Kinds.{u32}
-use Rattle.format.specs.Decode.{signed, boundsOf, classOf, verificationOf}
-use Rattle.format.specs.Encode.{bit, unsigned, partAt, minAt, maxAt, classNumber, decisionNumber, stateNumber, verificationWord, maskWord, valueWord}
+use Rattle.format.specs.Decode.{boundsOf, classOf, verificationOf}
+use Rattle.format.specs.Encode.{bit, partAt, minAt, maxAt, classNumber, stateNumber, verificationWord, maskWord, valueWord}
 use Rattle.format.specs.Inputs.{I32, Two, two, RangedBounds, RangedVerification}
 use Rattle.format.specs.Back.{decisionOf, reasonOf, stateOf}
+use Rattle.words.proofs.Signs.{signed-unsigned}
 
 -- numbers ----------------------------------------------------------------------------------------------------------------
 
@@ -36,13 +39,6 @@ pub unsigned-in : (z : ℤ) → I32 z → unsigned z ≤ u32
 unfolding unsigned
 unsigned-in (pos n) f = let k : n < 2147483648 = f .sfits in omega arith
 unsigned-in (negsuc n) f = omega arith
-
-pub signed-unsigned : (z : ℤ) → I32 z → signed (unsigned z) ≡ z
-unfolding signed unsigned
-signed-unsigned (pos n) f = rw (lt-ltb n 2147483648 (f .sfits))
-signed-unsigned (negsuc n) f =
-    let k : n < 2147483648 = f .sfits in
-    rw (le-ltb (4294967295 - n) 2147483648 (omega arith)) (ap negsuc (omega arith))
 
 pub sign-back : (z : ℤ) → I32 z → signed (unsigned z % 4294967296) ≡ z
 sign-back z f = ap signed (kept (unsigned-in z f)) ∙ signed-unsigned z f

@@ -3,5 +3,4 @@ pub mod FieldLaws
 pub mod Held
 pub mod Inputs
 pub mod KindLaws
-pub mod SignLaws
 pub mod WordLaws

@@ -6,9 +6,11 @@ use lib.IntN.{ℤ}
 use mir.Facts.{toZ-ofZ}
 use mir.Syntax.{w32}
 use mir.Val.{SFits, toZ, ofZ}
+use Rattle.words.specs.Signs.{unsigned}
+use Rattle.model.specs.Decisions.{decisionNumber}
 use Rattle.model.specs.Reasons.{number}
 use Rattle.model.specs.declared.Receipt.{Receipt}
-use Rattle.format.specs.Encode.{bit, unsigned, partAt, decisionNumber, receiptWords, padded}
+use Rattle.format.specs.Encode.{bit, partAt, receiptWords, padded}
 
 -- what the code reads of a number that fits is that number
 pub as-read : {w : ℕ} {z : ℤ} → SFits w32 z → w ≡ unsigned (toZ w32 (ofZ w32 z)) → w ≡ unsigned z

@@ -5,11 +5,12 @@ use mathlib.Core.List.{List, [], _∷_}
 use mathlib.Core.Option.{Option, some, none}
 use lib.Dec.{eqb}
 use lib.ListN.{getD, drop}
+use Rattle.model.specs.Decisions.{decisions}
 use Rattle.model.specs.Reasons.{reasons}
 use Rattle.model.specs.declared.Capability.{Capability}
 use Rattle.model.specs.declared.Config.{Config}
 use Rattle.model.specs.declared.Decision.{Decision}
-use Rattle.model.specs.declared.Decision.the-variants as Decision
+use Rattle.model.specs.declared.Decision.the-variants.{Executed}
 use Rattle.model.specs.declared.Lease.{Lease}
 use Rattle.model.specs.declared.Reason.{Reason}
 use Rattle.model.specs.declared.Reason.the-variants.{Ok}
@@ -25,7 +26,7 @@ use Rattle.format.specs.Inputs.{I32, Two, RangedBounds, RangedCapability
 -- cases: each is at the place that is its number -------------------------------------------------------------------------
 
 abbrev pub decisionOf : ℕ → Decision
-decisionOf n = getD (Decision.Executed ∷ Decision.Rejected ∷ Decision.Fallback ∷ Decision.Control ∷ Decision.Failed ∷ []) n Decision.Executed
+decisionOf n = getD decisions n Executed
 
 abbrev pub reasonOf : ℕ → Reason
 reasonOf n = getD reasons n Ok

@@ -27,6 +27,7 @@ use Rattle.format.specs.declared.TurnKind.the-variants as Turn
 use Rattle.format.specs.declared.ReadingKind.{ReadingKind}
 use Rattle.format.specs.declared.ReadingKind.the-variants as Ask
 use Rattle.format.specs.Kinds.{kindAt, limitsOf, within}
+use Rattle.words.specs.Signs.{signed}
 
 -- fields -----------------------------------------------------------------------------------------------------------------
 
@@ -44,10 +45,6 @@ u8At ws i = word ws i % 256
 
 abbrev pub boolAt : List ℕ → ℕ → Bool
 boolAt ws i = eqb (word ws i) 1
-
--- 32 bits, in two's complement
-unfoldable pub signed : ℕ → ℤ
-signed w = cond (ltb w 2147483648) (pos w) (negsuc (4294967295 - w))
 
 abbrev pub i32At : List ℕ → ℕ → ℤ
 i32At ws i = signed (u32At ws i)

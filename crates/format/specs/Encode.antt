@@ -5,13 +5,12 @@ use mathlib.Core.List.{List, [], _∷_, _++_}
 use mathlib.Core.Option.{some, none}
 use lib.IntN.{ℤ, pos, negsuc}
 use lib.ListN.{getD, length, replicate}
+use Rattle.model.specs.Decisions.{decisionNumber}
 use Rattle.model.specs.Reasons.{number}
 use Rattle.model.specs.Records.{zeroBounds}
 use Rattle.model.specs.declared.Bounds.{Bounds}
 use Rattle.model.specs.declared.Capability.{Capability}
 use Rattle.model.specs.declared.Config.{Config}
-use Rattle.model.specs.declared.Decision.{Decision}
-use Rattle.model.specs.declared.Decision.the-variants as Decision
 use Rattle.model.specs.declared.ExecutionClass.{ExecutionClass}
 use Rattle.model.specs.declared.ExecutionClass.the-variants as Class
 use Rattle.model.specs.declared.Lease.{Lease}
@@ -23,17 +22,13 @@ use Rattle.model.specs.declared.Verification.{Verification}
 use Rattle.model.specs.declared.Verification.the-variants as Verification
 use Rattle.rules.specs.Interaction.{Answer, Returned, Polled, Succeeded, Leased, Refused, Submitted}
 use Rattle.rules.specs.Protocol.{Item, ItemObserve, ItemExecute, ItemFallback, ItemRecord, Value, OfState, OfNumber, OfConfig, OfSnapshot, OfLease, OfCapability, OfReceipt, Output, Started, StartRefused, Hands, Answers, Reminds, Refuses, Shows, NoRuntime}
+use Rattle.words.specs.Signs.{unsigned}
 
 -- fields -----------------------------------------------------------------------------------------------------------------
 
 unfoldable pub bit : Bool → ℕ
 bit false = 0
 bit true = 1
-
--- 32 bits, in two's complement
-unfoldable pub unsigned : ℤ → ℕ
-unsigned (pos n) = n
-unsigned (negsuc n) = 4294967295 - n
 
 -- one of two parameters, and the ends of one of two bounds
 abbrev pub partAt : List ℤ → ℕ → ℕ
@@ -52,13 +47,6 @@ unfoldable pub classNumber : ExecutionClass → ℕ
 classNumber Class.Stream = 0
 classNumber Class.Discrete = 1
 classNumber Class.Control = 2
-
-unfoldable pub decisionNumber : Decision → ℕ
-decisionNumber Decision.Executed = 0
-decisionNumber Decision.Rejected = 1
-decisionNumber Decision.Fallback = 2
-decisionNumber Decision.Control = 3
-decisionNumber Decision.Failed = 4
 
 unfoldable pub stateNumber : RuntimeState → ℕ
 stateNumber State.SafeIdle = 0

@@ -17,14 +17,18 @@ use model::RuntimeState;
 use model::Snapshot;
 use model::Submission;
 use model::Verification;
+use words::signed;
+use words::unsigned;
 ghost use mathlib.Core.List.{[]};
 ghost use mathlib.Core.Path.{_≡_};
 ghost use Prim.Native.Nat.{_%_};
 ghost use lib.Dec.{eqb};
+ghost use Rattle.model.specs.Decisions.{decisionNumber};
 ghost use Rattle.model.specs.Reasons.{number as reasonNumber};
+ghost use Rattle.words.specs.Signs.{signed as signedOf, unsigned as unsignedOf};
 ghost use Rattle.format.specs.Kinds.{kindAt, turnLimits, readingLimits, limitsOf, within as isWithin};
-ghost use Rattle.format.specs.Decode.{signed as signedOf, classOf, verificationOf, capabilityOf, configOf, requestOf, renewalOf, submissionOf, observationOf, actionOf, checkedKind, boundsOf};
-ghost use Rattle.format.specs.Encode.{bit as bitOf, unsigned as unsignedOf, classNumber, decisionNumber, stateNumber, verificationWord, maskWord, valueWord, receiptWords, leaseWords, capabilityWords, configWords, snapshotWords, padded, itemWords};
+ghost use Rattle.format.specs.Decode.{classOf, verificationOf, capabilityOf, configOf, requestOf, renewalOf, submissionOf, observationOf, actionOf, checkedKind, boundsOf};
+ghost use Rattle.format.specs.Encode.{bit as bitOf, classNumber, stateNumber, verificationWord, maskWord, valueWord, receiptWords, leaseWords, capabilityWords, configWords, snapshotWords, padded, itemWords};
 ghost use Rattle.rules.specs.Protocol.{ItemObserve, ItemExecute, ItemFallback};
 
 // A call or a reply.
@@ -278,17 +282,6 @@ pub fn as_bool(word: u64) -> bool
     word == 1
 }
 
-// 32 bits, in two's complement.
-pub fn signed(bits: u32) -> i32
-    ensures { λ r. ⌜ r ≡ signedOf bits ⌝ }
-{
-    if bits < 2147483648 {
-        return bits as i32;
-    }
-    let below = 4294967295 - bits;
-    -1 - (below as i32)
-}
-
 fn as_i32(word: u64) -> i32
     ensures { λ r. ⌜ r ≡ signedOf (word % 4294967296) ⌝ }
 {
@@ -305,23 +298,6 @@ pub fn bit(value: bool) -> u64
     ensures { λ r. ⌜ r ≡ bitOf value ⌝ }
 {
     if value { 1 } else { 0 }
-}
-
-// The same 32 bits: in this width both arms are the value itself, and cost nothing.
-fn bits_of(value: i32) -> u32
-    ensures { λ r. ⌜ r ≡ unsignedOf value ⌝ }
-{
-    if value >= 0 {
-        return value as u32;
-    }
-    let below = -1 - value;
-    4294967295 - (below as u32)
-}
-
-pub fn unsigned(value: i32) -> u64
-    ensures { λ r. ⌜ r ≡ unsignedOf value ⌝ }
-{
-    bits_of(value) as u64
 }
 
 fn class_of(word: u64) -> ExecutionClass
@@ -469,13 +445,7 @@ pub fn class_number(class: ExecutionClass) -> u64
 pub fn decision_number(decision: Decision) -> u64
     ensures { λ r. ⌜ r ≡ decisionNumber decision ⌝ }
 {
-    match decision {
-        Decision::Executed => 0,
-        Decision::Rejected => 1,
-        Decision::Fallback => 2,
-        Decision::Control => 3,
-        Decision::Failed => 4,
-    }
+    decision.number() as u64
 }
 
 pub fn state_number(state: RuntimeState) -> u64

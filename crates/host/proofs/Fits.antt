@@ -9,14 +9,14 @@ use borrow.Author.Tests.{ltb-true, ltb-false}
 use lib.Dec.{ltb}
 use lib.IntN.{ℤ, pos, negsuc}
 use lib.ListN.{getD, take, getElem?}
-use Rattle.model.specs.Records.{noLease, noCapability}
+use Rattle.words.specs.Signs.{signed}
+use Rattle.model.specs.Records.{noLease, noCapability, noReceipt}
 use Rattle.model.specs.declared.Capability.{Capability}
 use Rattle.model.specs.declared.Lease.{Lease}
 use Rattle.model.specs.declared.LeaseSlot.{LeaseSlot}
 use Rattle.model.specs.declared.Presence.{Presence}
 use Rattle.model.specs.declared.Presence.the-variants.{Absent, Present}
 use Rattle.model.specs.declared.Receipt.{Receipt}
-use Rattle.receipts.specs.Blank.{blank}
 use Rattle.receipts.specs.Indexes.{Stores, inSlot, rejectedSlots, otherSlots, listOf}
 use Rattle.receipts.specs.Orders.{All, order}
 use Rattle.receipts.specs.declared.Index.{Index}
@@ -30,7 +30,7 @@ use Rattle.state.specs.declared.Answer.the-variants as Answer
 use Rattle.state.specs.declared.Awaited.{Awaited}
 use Rattle.state.specs.declared.Awaited.the-variants as Awaited
 use Rattle.cells.specs.Cells.{part, tab, table}
-use Rattle.format.specs.Decode.{word, signed, boundsOf, verificationOf, capabilityOf, actionOf, submissionOf}
+use Rattle.format.specs.Decode.{word, boundsOf, verificationOf, capabilityOf, actionOf, submissionOf}
 use Rattle.format.specs.Inputs.{I32, Two, two, RangedBounds, RangedVerification, RangedCapability}
 use Rattle.format.specs.Back.{FitsReceipt, FitsLease, FitsItem, FitsValue, Fits}
 use Rattle.rows.specs.Codes.{lowOf, highOf, signsOf}
@@ -73,8 +73,8 @@ receipt-fits : (l : List ℕ) → FitsReceipt (receiptOf l)
 unfolding receiptOf
 receipt-fits l = (signs-fit (word l 15), signs-fit (word l 16))
 
-blank-fits : FitsReceipt blank
-unfolding blank
+blank-fits : FitsReceipt noReceipt
+unfolding noReceipt
 blank-fits = (two zero-fits zero-fits, two zero-fits zero-fits)
 
 lease-fits : (l : List ℕ) → FitsLease (leaseSlotOf l .lease)
@@ -146,7 +146,7 @@ each-map Q f s (x ∷ l) = (s x, each-map Q f s l)
 listed-fit : (i : Index) (st : Stores) → All FitsReceipt (st .receipts) → All FitsReceipt (listOf i st)
 unfolding listOf
 listed-fit i st h =
-    each-map FitsReceipt (inSlot st) (λ s. at FitsReceipt (st .receipts) s blank h blank-fits) (order (i .kinds) (rejectedSlots i st) (otherSlots i st))
+    each-map FitsReceipt (inSlot st) (λ s. at FitsReceipt (st .receipts) s noReceipt h blank-fits) (order (i .kinds) (rejectedSlots i st) (otherSlots i st))
 
 -- runtimes ---------------------------------------------------------------------------------------------------------------
 
@@ -175,7 +175,7 @@ FitsSlot o = FitsValue (OfLease o)
 
 module _ (rt : Runtime) (h : Holds rt) where
   receipt-at : FitsReceipt (handIn rt .receipt)
-  receipt-at = at FitsReceipt (rt .slots) (rt .slot) blank (h .slots) blank-fits
+  receipt-at = at FitsReceipt (rt .slots) (rt .slot) noReceipt (h .slots) blank-fits
 
   lease-at : (axis : ℕ) → FitsSlot (leaseAt (bookOn rt) axis)
   unfolding bookOf

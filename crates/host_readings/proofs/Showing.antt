@@ -13,8 +13,7 @@ use Rattle.model.specs.declared.Lease.{Lease}
 use Rattle.model.specs.declared.LeaseSlot.{LeaseSlot}
 use Rattle.model.specs.declared.Receipt.{Receipt}
 use Rattle.model.specs.declared.Submission.{Submission}
-use Rattle.model.specs.Records.{noLease, noCapability}
-use Rattle.receipts.specs.Blank.{blank}
+use Rattle.model.specs.Records.{noLease, noCapability, noReceipt}
 use Rattle.receipts.specs.Indexes.{Numbered, Points}
 use Rattle.receipts.specs.declared.Found.{Found}
 use Rattle.receipts.specs.declared.Found.the-variants as Found
@@ -122,7 +121,7 @@ module _ (h : Runtime) {starting : Starting} (s : starting ≡ h .starting) wher
           rw (l, e, a, b) (slot-kept notedSlot (noted-low h (good .kept) at noted (noted-there good)))
 
       pub receipt-shows : {x slot : ℕ} {receipt : Receipt} {r : ReceiptShown} → x ≡ slotBy noted rejected other → slot ≡ cond (ltb x 64) x 64
-          → receipt ≡ getD (h .slots) slot blank → r ≡ receiptAt (isStarted (starting .stage)) slot receipt → RuntimeSound h → ReceiptReads at h r
+          → receipt ≡ getD (h .slots) slot noReceipt → r ≡ receiptAt (isStarted (starting .stage)) slot receipt → RuntimeSound h → ReceiptReads at h r
       receipt-shows e l p shown good =
           rw (shown, s, p, slot-there e l good) (receipt-reads h (good .kept) at noted (noted-there good))
 
@@ -140,7 +139,7 @@ module _ (h : Runtime) where
   pub item-seen : {waiting : Waiting} {falling : Falling} {carrying : Carrying} {capability : Capability} {submission : Submission} {slot : ℕ}
       {receipt : Receipt} {r : ItemShown} → waiting ≡ h .waiting → falling ≡ h .falling → carrying ≡ h .carrying
       → capability ≡ getD (h .capabilities) (carrying .at) noCapability → submission ≡ h .submission → slot ≡ h .slot
-      → receipt ≡ getD (h .slots) slot blank → r ≡ itemFrom (waiting .awaited) falling capability (submission .action .parameters) receipt
+      → receipt ≡ getD (h .slots) slot noReceipt → r ≡ itemFrom (waiting .awaited) falling capability (submission .action .parameters) receipt
       → RuntimeSound h → r ≡ shownItem (awaitedIn (phaseIn h))
   item-seen w f c k m p x e good = rw (e, w, f, k, c, m, x, p) (item-shown h good)
 
@@ -149,6 +148,6 @@ module _ (h : Runtime) where
   lease-seen x a l e good = rw (e, l, a, x) (lease-answered h (good .kept))
 
   pub receipt-seen : {waiting : Waiting} {slot : ℕ} {receipt kept r : Receipt} → waiting ≡ h .waiting → slot ≡ h .slot
-      → receipt ≡ getD (h .slots) slot blank → kept ≡ h .submitted → r ≡ answeredAt (waiting .«after_record») receipt kept
+      → receipt ≡ getD (h .slots) slot noReceipt → kept ≡ h .submitted → r ≡ answeredAt (waiting .«after_record») receipt kept
       → outputOf Answer.Submitted (stateIn h) ≡ Answers (Submitted r)
   receipt-seen w p x k e = rw (e, w, x, p, k) (receipt-answered h)

@@ -8,7 +8,7 @@ use native.Mathlib.Omega.{arith}
 use lib.IntN.{ℤ}
 use lib.ListN.{length, getD, take}
 use lib.Seq.{take-all, length-take-le}
-use Rattle.model.specs.Records.{noCapability}
+use Rattle.model.specs.Records.{noCapability, noReceipt}
 use Rattle.model.specs.declared.Capability.{Capability}
 use Rattle.model.specs.declared.Config.{Config}
 use Rattle.model.specs.declared.Observation.{Observation}
@@ -16,7 +16,6 @@ use Rattle.model.specs.declared.Presence.{Presence}
 use Rattle.model.specs.declared.Presence.the-variants.{Absent, Present}
 use Rattle.model.specs.declared.Receipt.{Receipt}
 use Rattle.model.specs.declared.Submission.{Submission}
-use Rattle.receipts.specs.Blank.{blank}
 use Rattle.cells.proofs.Regions.{length-table}
 use Rattle.rules.specs.Log.{tookEffect}
 use Rattle.rules.specs.Protocol.{Item, ItemObserve, ItemExecute, ItemFallback, ItemRecord, Input, Calls, Replies, Reads, Reading, Phase, Reaction, effect, apply, react}
@@ -70,7 +69,7 @@ item-by Awaited.Record h q = refl
 pub item-put : (h : Runtime) (n : ℕ) {waiting : Waiting} {carrying : Carrying} {capability : Capability} {submission : Submission} {falling : Falling} {slot : ℕ}
     {receipt : Receipt} {a : Awaited} {r : List ℕ} → waiting ≡ h .waiting → carrying ≡ h .carrying
     → capability ≡ getD (h .capabilities) (carrying .at) noCapability → submission ≡ h .submission → falling ≡ h .falling → slot ≡ h .slot
-    → receipt ≡ getD (h .slots) slot blank → waiting .awaited ≡ a
+    → receipt ≡ getD (h .slots) slot noReceipt → waiting .awaited ≡ a
     → r ≡ itemWords n (itemBy a falling capability (submission .action .parameters) receipt) → r ≡ itemWords n (itemOf (stateIn h))
 item-put h n w c k m f p x t e =
     rw (e, sym t, w, f, k, c, m, x, p) (ap (itemWords n) (item-by (h .waiting .awaited) (handIn h) (askedIn h)))

@@ -15,8 +15,7 @@ use Rattle.model.specs.declared.Reason.{Reason}
 use Rattle.model.specs.declared.Reason.the-variants.{Driver}
 use Rattle.model.specs.declared.Receipt.{Receipt}
 use Rattle.model.specs.declared.Submission.{Submission}
-use Rattle.model.specs.Records.{noLease, noCapability}
-use Rattle.receipts.specs.Blank.{blank}
+use Rattle.model.specs.Records.{noLease, noCapability, noReceipt}
 use Rattle.rules.specs.Interaction.{Interaction, Submitted, Done, Observe, Execute, Fallback, Record}
 use Rattle.rules.specs.Protocol as Protocol
 use Rattle.rules.specs.Protocol.{Reaction, Replies, proceed, react}
@@ -168,7 +167,7 @@ follows-by {w₂ = w₂} {rt = rt} {c = c} {r = r} given i p q e good leads =
 -- the trip after an order's receipt
 pub trips-on : {w w₁ w₂ : List ℕ} {fixed : Fixed} {numbers : Numbers} {submission : Submission} {slot : ℕ} {r : Answer} (reason : Reason) (c : Course)
     → fixed ≡ runtimeIn w .fixed → numbers ≡ runtimeIn w .numbers → submission ≡ runtimeIn w .submission → slot ≡ runtimeIn w .slot
-    → Becomes w w₁ (withSubmitted (getD (runtimeIn w .slots) slot blank) (runtimeIn w)) → Settles c
+    → Becomes w w₁ (withSubmitted (getD (runtimeIn w .slots) slot noReceipt) (runtimeIn w)) → Settles c
     → Takes fixed numbers c (λ b q. trip reason (submission .now) b (afterTrip AfterTrip.Submit 0 (submission .now) q)) → Follows c w₁ w₂ r
     → Goes w w₂ r (Good (runtimeIn w))
     (proceed (trip reason (runtimeIn w .submission .now) (bookOn (runtimeIn w)) (λ b. Done b (Submitted (handIn (runtimeIn w) .receipt)))))
@@ -324,7 +323,7 @@ submits-recorded {w} k wt e f we p =
     turns-stored (rw (we, wt) at p) refl (λ g. recorded-submitted h g k (e g) _ f (refl, refl, refl, refl, refl, refl, refl, refl, refl, refl, refl) refl)
 
 -- the receipt of an order that failed, whose reason the trip has
-pub trips-by : {w w′ : List ℕ} {r : Answer} {receipt : Receipt} {slot : ℕ} → slot ≡ runtimeIn w .slot → receipt ≡ getD (runtimeIn w .slots) slot blank
+pub trips-by : {w w′ : List ℕ} {r : Answer} {receipt : Receipt} {slot : ℕ} → slot ≡ runtimeIn w .slot → receipt ≡ getD (runtimeIn w .slots) slot noReceipt
     → Goes w w′ r (Good (runtimeIn w))
     (proceed (trip (receipt .reason) (runtimeIn w .submission .now) (bookOn (runtimeIn w)) (λ b. Done b (Submitted (handIn (runtimeIn w) .receipt)))))
     → Goes w w′ r (Good (runtimeIn w))

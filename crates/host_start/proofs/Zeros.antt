@@ -1,10 +1,11 @@
 -- Words that are zeros: a start that is over without a runtime, and empty tables. Assumes nothing.
 use Prim.Native.Nat.{ℕ, _+_, _*_, _<_, _≤_}
+use Rattle.words.specs.Signs.{signed}
 use Rattle.cells.proofs.Regions.{part-zero, table-zero, length-table}
 use Rattle.cells.specs.Cells.{tab, part, table}
 use Rattle.decide_start.specs.declared.Stage.the-variants as Stage
 use Rattle.decide_start.specs.declared.Stage.{Stage}
-use Rattle.format.specs.Decode.{signed, boundsOf, classOf, verificationOf, capabilityOf}
+use Rattle.format.specs.Decode.{boundsOf, classOf, verificationOf, capabilityOf}
 use Rattle.layout.specs.Layout.{runtimeIn, placesIn, slotNumberOf}
 use Rattle.model.specs.Records.{noLease, noActive, noReplay}
 use Rattle.model.specs.declared.ActiveSlot.{ActiveSlot}

@@ -13,8 +13,7 @@ use Rattle.model.specs.declared.Receipt.{Receipt}
 use Rattle.model.specs.declared.Renewal.{Renewal}
 use Rattle.model.specs.declared.ReplaySlot.{ReplaySlot}
 use Rattle.model.specs.declared.Submission.{Submission}
-use Rattle.model.specs.Records.{noLease, noActive, noCapability, noReplay}
-use Rattle.receipts.specs.Blank.{blank}
+use Rattle.model.specs.Records.{noLease, noActive, noCapability, noReplay, noReceipt}
 use Rattle.receipts.specs.declared.Index.{Index}
 use Rattle.state.specs.declared.Carrying.{Carrying}
 use Rattle.state.specs.declared.Falling.{Falling}
@@ -134,9 +133,9 @@ module _ (w ws : List ℕ) (i : ℕ) where
   unfolding receiptOf part
   receipt-row = refl
 
-  pub receipt-read : {r : Receipt} → i < 65 → ws ≡ part w (855 + i * 21) 24 → r ≡ receiptOf ws → r ≡ getD (runtimeIn w .slots) i blank
+  pub receipt-read : {r : Receipt} → i < 65 → ws ≡ part w (855 + i * 21) 24 → r ≡ receiptOf ws → r ≡ getD (runtimeIn w .slots) i noReceipt
   unfolding runtimeIn
-  receipt-read h e f = f ∙ ap receiptOf e ∙ receipt-row ∙ sym (getD-table receiptOf w 855 21 65 i blank h)
+  receipt-read h e f = f ∙ ap receiptOf e ∙ receipt-row ∙ sym (getD-table receiptOf w 855 21 65 i noReceipt h)
 
 -- slot numbers of the circles
 module _ (w : List ℕ) (i r : ℕ) (h : i < 65) where

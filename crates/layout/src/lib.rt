@@ -62,8 +62,7 @@ use state::Waiting;
 ghost use Prim.Native.Nat.{_<_};
 ghost use mathlib.Core.Path.{_≡_};
 ghost use lib.ListN.{getD, set};
-ghost use Rattle.model.specs.Records.{noLease, noActive, noCapability, noReplay};
-ghost use Rattle.receipts.specs.Blank.{blank};
+ghost use Rattle.model.specs.Records.{noLease, noActive, noCapability, noReplay, noReceipt};
 ghost use Rattle.rows.specs.Codes.{below};
 ghost use Rattle.rows.specs.Rows.{fallingOf, fallingWords, Headed};
 ghost use Rattle.runtime.specs.Kept.{emptied, idled};
@@ -222,7 +221,7 @@ pub fn entry_at(state: &[u64], at: usize) -> ReplaySlot
 
 pub fn receipt_at(state: &[u64], at: usize) -> Receipt
     requires { ⌜ Long (now state) × (at < 65) ⌝ }
-    ensures { λ r. ⌜ r ≡ getD (runtimeIn (now (state .entry)) .slots) at blank ⌝ }
+    ensures { λ r. ⌜ r ≡ getD (runtimeIn (now (state .entry)) .slots) at noReceipt ⌝ }
 {
     receipt_of(read24(state, 855 + at * 21))
 }
@@ -456,7 +455,7 @@ pub fn clear_active(state: &mut [u64], at: usize)
 // The receipt in a slot, kept to be answered.
 pub fn keep_receipt(state: &mut [u64], at: usize)
     requires { ⌜ Long (now state) × (at < 65) ⌝ }
-    ensures { λ _. ⌜ Becomes (now (state .entry)) (now (state .exit)) (withSubmitted (getD (runtimeIn (now (state .entry)) .slots) at blank) (runtimeIn (now (state .entry)))) ⌝ }
+    ensures { λ _. ⌜ Becomes (now (state .entry)) (now (state .exit)) (withSubmitted (getD (runtimeIn (now (state .entry)) .slots) at noReceipt) (runtimeIn (now (state .entry)))) ⌝ }
 {
     let words = read24(state, 855 + at * 21);
     put_submitted(state, receipt_of(words));

@@ -10,8 +10,7 @@ use Rattle.model.specs.declared.Presence.{Presence}
 use Rattle.model.specs.declared.Presence.the-variants.{Absent, Present}
 use Rattle.model.specs.declared.Receipt.{Receipt}
 use Rattle.model.specs.declared.RuntimeState.the-variants.{Faulted}
-use Rattle.model.specs.Records.{noLease, noCapability}
-use Rattle.receipts.specs.Blank.{blank}
+use Rattle.model.specs.Records.{noLease, noCapability, noReceipt}
 use Rattle.rules.specs.Protocol.{Reading, ReadState, ReadConfig, ReadSnapshot, ReadLease, ReadCapability, ReadReceipt, OfLease, OfCapability, OfReceipt, Output, Started, StartRefused, Hands, Answers, Reminds, Refuses, Shows, NoRuntime, bookIn, shown}
 use Rattle.state.specs.State.{leaseIn}
 use Rattle.decide_read.specs.Shown.{noConfig, noSnapshot, numberSays, stateSays, configSays, snapshotSays, leaseSays, capabilitySays, receiptSays}
@@ -83,7 +82,7 @@ module _ (rt : Runtime) (e : bookIn (phaseIn rt) ≡ none) where
       let a = hides (λ p. capabilitySays (record { runtime = p; presence = r .presence; capability = r .capability })) refl (r .runtime) (k .shows ∙ nothing (ReadCapability index)) in
       (a, k .blank (k .unread a))
 
-  pub receipt-unread : (index : ℕ) (r : ReceiptShown) → ReceiptReads index rt r → (r .runtime ≡ Absent) × (r .receipt ≡ blank)
+  pub receipt-unread : (index : ℕ) (r : ReceiptShown) → ReceiptReads index rt r → (r .runtime ≡ Absent) × (r .receipt ≡ noReceipt)
   unfolding isShown
   receipt-unread index r k =
       let a = hides (λ p. receiptSays (record { runtime = p; presence = r .presence; receipt = r .receipt })) refl (r .runtime) (k .shows ∙ nothing (ReadReceipt index)) in
@@ -123,7 +122,7 @@ module _ (rt : Runtime) where
 
   pub no-receipt-shown : (index : ℕ) (r : ReceiptShown) → ReceiptReads index rt r
       → shown (ReadReceipt index) (bookIn (phaseIn rt)) ≡ Shows (OfReceipt none)
-      → (r .runtime ≡ Present) × ((r .presence ≡ Absent) × (r .receipt ≡ blank))
+      → (r .runtime ≡ Present) × ((r .presence ≡ Absent) × (r .receipt ≡ noReceipt))
   no-receipt-shown index r k e =
       let n = no-receipt (r .runtime) (r .presence) (r .receipt) (k .shows ∙ e) in
       (n .0, (n .1, k .blank (n .1)))

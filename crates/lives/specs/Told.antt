@@ -4,11 +4,11 @@ use mathlib.Core.Logic.{_≢_}
 use mathlib.Core.Option.{Option, some, none}
 use mathlib.Core.Path.{_≡_}
 use lib.IntN.{pos}
+use Rattle.model.specs.Records.{noReceipt}
 use Rattle.model.specs.declared.Lease.{Lease}
 use Rattle.model.specs.declared.Reason.{Reason}
 use Rattle.model.specs.declared.Reason.the-variants.{Ok}
 use Rattle.model.specs.declared.Receipt.{Receipt}
-use Rattle.receipts.specs.Blank.{blank}
 use Rattle.rules.specs.Interaction.{Leased, Refused, Submitted}
 use Rattle.rules.specs.Protocol.{Item, ItemObserve, ItemExecute, ItemFallback, ItemRecord, Output, Hands, Answers, awaitedIn}
 use Rattle.state.specs.declared.Answer.{Answer}
@@ -44,7 +44,7 @@ pub record RestBlank (r : ItemShown) : Type 0 where
   pub reason : r .kind ≢ ItemKind.Fallback → r .reason ≡ Ok
   pub capability : r .kind ≢ ItemKind.Execute → r .capability ≡ 0
   pub parameters : r .kind ≢ ItemKind.Execute → r .parameters ≡ pos 0 ∷ pos 0 ∷ []
-  pub receipt : r .kind ≢ ItemKind.Record → r .receipt ≡ blank
+  pub receipt : r .kind ≢ ItemKind.Record → r .receipt ≡ noReceipt
 
 -- what an answer speaks of ---------------------------------------------------------------------------------------------
 

@@ -1,4 +1,5 @@
 pub mod Tests
 pub mod Lists
 pub mod Reasons
+pub mod Decisions
 pub mod Meaning

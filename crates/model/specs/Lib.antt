@@ -3,5 +3,6 @@ pub mod Bounds
 pub mod Words
 pub mod Soundness
 pub mod Reasons
+pub mod Decisions
 pub mod Records
 pub mod Profile

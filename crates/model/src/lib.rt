@@ -1,6 +1,7 @@
 // The records, enums and numbers of the stage runtime, from model.rs, and the four records of the reference profile (profile.rs).
 // Promises: a bound contains what lies from its minimum to its maximum; a capability permits the flags that meet both its words; a
-// reason and its number determine each other; a record is sound exactly by 01's seven conditions. Rests on nothing but the language.
+// reason and its number determine each other, and so do a decision and its number; a record is sound exactly by 01's seven conditions.
+// Rests on nothing but the language.
 ghost use mathlib.Core.Path.{_≡_};
 ghost use mathlib.Core.Bool.{_&&_};
 ghost use lib.Dec.{eqb};
@@ -8,7 +9,8 @@ ghost use lib.ListN.{drop};
 ghost use lib.Signed.{leZ};
 ghost use lib.Bits.{bitAnd};
 ghost use Rattle.model.specs.Reasons.{number, reasonAt};
-ghost use Rattle.model.specs.Records.{defaultConfig, noLease, noCapability, noActive, noReplay};
+ghost use Rattle.model.specs.Decisions.{decisionNumber, decisionAt};
+ghost use Rattle.model.specs.Records.{defaultConfig, noLease, noCapability, noActive, noReplay, noReceipt};
 ghost use Rattle.model.specs.Lists.{all};
 ghost use Rattle.model.specs.Bounds.{ordered, isZero};
 ghost use Rattle.model.specs.Soundness.{verifiable, sound};
@@ -244,6 +246,12 @@ pub enum Numbered {
     Unknown,
 }
 
+// What a number stands for: a decision, or none.
+pub enum NumberedDecision {
+    Known(Decision),
+    Unknown,
+}
+
 impl Reason {
     pub fn number(self) -> u16
         ensures { λ r. ⌜ r ≡ number self ⌝ }
@@ -341,6 +349,33 @@ pub enum Decision {
     Fallback,
     Control,
     Failed,
+}
+
+impl Decision {
+    pub fn number(self) -> u8
+        ensures { λ r. ⌜ r ≡ decisionNumber self ⌝ }
+    {
+        match self {
+            Decision::Executed => 0,
+            Decision::Rejected => 1,
+            Decision::Fallback => 2,
+            Decision::Control => 3,
+            Decision::Failed => 4,
+        }
+    }
+
+    pub fn from_number(n: u8) -> NumberedDecision
+        ensures { λ r. ⌜ r ≡ decisionAt n ⌝ }
+    {
+        match n {
+            0 => NumberedDecision::Known(Decision::Executed),
+            1 => NumberedDecision::Known(Decision::Rejected),
+            2 => NumberedDecision::Known(Decision::Fallback),
+            3 => NumberedDecision::Known(Decision::Control),
+            4 => NumberedDecision::Known(Decision::Failed),
+            5..=255 => NumberedDecision::Unknown,
+        }
+    }
 }
 
 pub enum RuntimeState {
@@ -514,6 +549,38 @@ impl ReplaySlot {
                 action_id: 0,
                 receipt: 0,
             },
+        }
+    }
+}
+
+// What stands where there is no receipt: zeros.
+impl Receipt {
+    pub fn blank() -> Self
+        ensures { λ r. ⌜ r ≡ noReceipt ⌝ }
+    {
+        Self {
+            boot_id: 0,
+            principal: 0,
+            safety_flags: 0,
+            receipt_id: 0,
+            action_id: 0,
+            sequence: 0,
+            capability: 0,
+            resource: 0,
+            lease_id: 0,
+            decision: Decision::Executed,
+            reason: Reason::Ok,
+            epoch: 0,
+            received_at: 0,
+            admitted_at: 0,
+            executed_at: 0,
+            requested: [0i32; 2],
+            observed: [0i32; 2],
+            pre_state: 0,
+            post_state: 0,
+            original_receipt: 0,
+            dispatched: false,
+            observed_valid: false,
         }
     }
 }

@@ -14,6 +14,7 @@ use lib.ListN.{length, getD, set, take, getElem?, length-set, length-map}
 use lib.Pow.{pow-mono}
 use lib.Seq.{getD-set-same}
 use borrow.Author.Tests.{lt-ltb, le-ltb, eq-eqb, ne-eqb}
+use Rattle.model.specs.Records.{noReceipt}
 use Rattle.model.specs.declared.Presence.the-variants.{Absent, Present}
 use Rattle.model.specs.declared.Receipt.{Receipt}
 use Rattle.rules.specs.Receipts.{isRejected, rejected, keep}
@@ -25,7 +26,6 @@ use Rattle.receipts.specs.declared.Found.{Found}
 use Rattle.receipts.specs.declared.Found.the-variants.{Rejected, Other, Nothing}
 use Rattle.receipts.specs.declared.Ring.{Ring}
 use Rattle.receipts.specs.declared.KeptReceipt.{KeptReceipt}
-use Rattle.receipts.specs.Blank.{blank}
 use Rattle.receipts.specs.Orders.{order, around, kindsOf, trues, odd, times, one, Top, Counted, Roomy}
 use Rattle.receipts.specs.Circles.{slotsOf, placeAt, longerBy, shorterBy}
 use Rattle.receipts.specs.Circles as circles
@@ -179,10 +179,10 @@ module _ (i : Index) (a b : ℕ) (f : Freed) (m : Frees i a b f) where
       unused = slot-unused 64 (f .index .kinds) (rs st) (os st) (p .slot) roomy
 
       abbrev after : ℕ → Receipt
-      after x = getD (set (st .receipts) (p .slot) r) x blank
+      after x = getD (set (st .receipts) (p .slot) r) x noReceipt
 
       at-slot : after (p .slot) ≡ r
-      at-slot = getD-set-same (st .receipts) (p .slot) r blank (omega (arith, slot-inside, s .long .receipts))
+      at-slot = getD-set-same (st .receipts) (p .slot) r noReceipt (omega (arith, slot-inside, s .long .receipts))
 
       kind-is : rejected (after (p .slot)) ≡ kind
       kind-is = ap rejected at-slot ∙ h
@@ -195,8 +195,8 @@ module _ (i : Index) (a b : ℕ) (f : Freed) (m : Frees i a b f) where
             long = stored-long p kind st r (s .long);
             ordered = g .ordered;
             sorted = record {
-              rejections = g .rejections after kind-is (stored-all blank (st .receipts) (p .slot) r (λ x. rejected x ≡ true) (rs st) (omega (arith, unused)) (room .sorted .rejections));
-              others = g .others after kind-is (stored-all blank (st .receipts) (p .slot) r (λ x. rejected x ≡ false) (os st) (omega (arith, unused)) (room .sorted .others));
+              rejections = g .rejections after kind-is (stored-all noReceipt (st .receipts) (p .slot) r (λ x. rejected x ≡ true) (rs st) (omega (arith, unused)) (room .sorted .rejections));
+              others = g .others after kind-is (stored-all noReceipt (st .receipts) (p .slot) r (λ x. rejected x ≡ false) (os st) (omega (arith, unused)) (room .sorted .others));
             };
           }
 
@@ -205,7 +205,7 @@ module _ (i : Index) (a b : ℕ) (f : Freed) (m : Frees i a b f) where
       keeps-rule =
           ap (map after) (grown st r (s .long) roomy .appended)
           ∙ map-snoc after (order (f .index .kinds) (rs st) (os st)) (p .slot)
-          ∙ rw (at-slot, stored-map blank (st .receipts) (p .slot) r (order (f .index .kinds) (rs st) (os st)) (order-unused 64 (f .index .kinds) (rs st) (os st) (p .slot) roomy))
+          ∙ rw (at-slot, stored-map noReceipt (st .receipts) (p .slot) r (order (f .index .kinds) (rs st) (os st)) (order-unused 64 (f .index .kinds) (rs st) (os st) (p .slot) roomy))
           (ap (λ (l : List Receipt). l ++ (r ∷ [])) (room .keeps))
 
     pushes-grown : Pushes i kind a b p
@@ -367,7 +367,7 @@ module _ (i : Index) (at : ℕ) (f : Found) (p : Points i at f) (st : Stores) (s
     pub kept-rejected : (d : Receipt)
         → _≡_ {A = KeptReceipt} (record { presence = Present; receipt = getD (st .receipts) (getD (st .rejections) k 0) d }) (keptAt (getElem? (listOf i st) at))
     unfolding keptAt
-    kept-rejected d = let q = (rw e at p) .reads st s in rw (q, same-at d blank (st .receipts) (getD (st .rejections) k 0) (omega (arith, rejected-below, s .long .receipts)))
+    kept-rejected d = let q = (rw e at p) .reads st s in rw (q, same-at d noReceipt (st .receipts) (getD (st .rejections) k 0) (omega (arith, rejected-below, s .long .receipts)))
 
   module _ (k : ℕ) (e : f ≡ Other k) where
     pub other-inside : k < 64
@@ -379,9 +379,9 @@ module _ (i : Index) (at : ℕ) (f : Found) (p : Points i at f) (st : Stores) (s
     pub kept-other : (d : Receipt)
         → _≡_ {A = KeptReceipt} (record { presence = Present; receipt = getD (st .receipts) (getD (st .others) k 0) d }) (keptAt (getElem? (listOf i st) at))
     unfolding keptAt
-    kept-other d = let q = (rw e at p) .reads st s in rw (q, same-at d blank (st .receipts) (getD (st .others) k 0) (omega (arith, other-below, s .long .receipts)))
+    kept-other d = let q = (rw e at p) .reads st s in rw (q, same-at d noReceipt (st .receipts) (getD (st .others) k 0) (omega (arith, other-below, s .long .receipts)))
 
-  pub kept-nothing : f ≡ Nothing → _≡_ {A = KeptReceipt} (record { presence = Absent; receipt = blank }) (keptAt (getElem? (listOf i st) at))
+  pub kept-nothing : f ≡ Nothing → _≡_ {A = KeptReceipt} (record { presence = Absent; receipt = noReceipt }) (keptAt (getElem? (listOf i st) at))
   unfolding keptAt
   kept-nothing e = let q = (rw e at p) .reads st s in rw q
 

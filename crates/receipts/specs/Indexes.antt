@@ -6,6 +6,7 @@ use mathlib.Core.List.{List, [], map}
 use mathlib.Core.Option.{Option, none, some}
 use lib.Dec.{ltb}
 use lib.ListN.{length, getD, set, getElem?}
+use Rattle.model.specs.Records.{noReceipt}
 use Rattle.model.specs.declared.Receipt.{Receipt}
 use Rattle.rules.specs.Receipts.{rejected, evict, keep}
 use Rattle.receipts.specs.declared.Index.{Index}
@@ -13,7 +14,6 @@ use Rattle.receipts.specs.declared.Freed.{Freed}
 use Rattle.receipts.specs.declared.Pushed.{Pushed}
 use Rattle.receipts.specs.declared.Found.{Found}
 use Rattle.receipts.specs.declared.Found.the-variants.{Rejected, Other, Nothing}
-use Rattle.receipts.specs.Blank.{blank}
 use Rattle.receipts.specs.Orders.{All, order, Counted, Ordered, Roomy}
 use Rattle.receipts.specs.Circles.{slotsOf}
 
@@ -25,7 +25,7 @@ pub record Stores : Type 0 where
 
 -- the receipt in a slot
 abbrev pub inSlot : Stores → ℕ → Receipt
-inSlot st s = getD (st .receipts) s blank
+inSlot st s = getD (st .receipts) s noReceipt
 
 abbrev pub rejectedSlots : Index → Stores → List ℕ
 rejectedSlots i st = slotsOf (i .rejected) (st .rejections)

@@ -1,4 +1,3 @@
-pub mod Blank
 pub mod Orders
 pub mod Circles
 pub mod Indexes

@@ -2,12 +2,12 @@
 use mathlib.Core.Path.{_≡_}
 use mathlib.Core.List.{List, []}
 use mathlib.Core.Option.{Option, none, some}
+use Rattle.model.specs.Records.{noReceipt}
 use Rattle.model.specs.declared.Presence.the-variants.{Absent, Present}
 use Rattle.model.specs.declared.Receipt.{Receipt}
 use Rattle.rules.specs.Receipts.{keep}
 use Rattle.receipts.specs.declared.Ring.{Ring}
 use Rattle.receipts.specs.declared.KeptReceipt.{KeptReceipt}
-use Rattle.receipts.specs.Blank.{blank}
 use Rattle.receipts.specs.Indexes.{Stores, Sound, listOf}
 
 abbrev pub storesOf : Ring → Stores
@@ -33,5 +33,5 @@ pub record Records (before : Ring) (r : Receipt) (after : Ring) : Type 0 where
 
 -- what `receipt` answers
 unfoldable pub keptAt : Option Receipt → KeptReceipt
-keptAt none = record { presence = Absent; receipt = blank }
+keptAt none = record { presence = Absent; receipt = noReceipt }
 keptAt (some r) = record { presence = Present; receipt = r }

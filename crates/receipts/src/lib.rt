@@ -7,8 +7,8 @@
 ghost use mathlib.Core.Path.{_≡_};
 ghost use Prim.Native.Nat.{_<_, _≤_};
 ghost use lib.ListN.{length, getElem?};
+ghost use Rattle.model.specs.Records.{noReceipt};
 ghost use Rattle.rules.specs.Receipts.{isRejected};
-ghost use Rattle.receipts.specs.Blank.{blank};
 ghost use Rattle.receipts.specs.Orders.{wrapped, Top};
 ghost use Rattle.receipts.specs.Circles.{none, placeAt, longerBy, shorterBy};
 ghost use Rattle.receipts.specs.Indexes.{Numbered, Opens, Frees, Pushes, Points};
@@ -230,42 +230,12 @@ pub fn is_rejected(decision: Decision) -> bool
     }
 }
 
-// A receipt of zeros: what a slot holds before its first receipt.
-pub fn blank_receipt() -> Receipt
-    ensures { λ r. ⌜ r ≡ blank ⌝ }
-{
-    Receipt {
-        boot_id: 0,
-        principal: 0,
-        safety_flags: 0,
-        receipt_id: 0,
-        action_id: 0,
-        sequence: 0,
-        capability: 0,
-        resource: 0,
-        lease_id: 0,
-        decision: Decision::Executed,
-        reason: Reason::Ok,
-        epoch: 0,
-        received_at: 0,
-        admitted_at: 0,
-        executed_at: 0,
-        requested: [0i32; 2],
-        observed: [0i32; 2],
-        pre_state: 0,
-        post_state: 0,
-        original_receipt: 0,
-        dispatched: false,
-        observed_valid: false,
-    }
-}
-
 // A ring that keeps no receipt.
 pub fn empty() -> Ring
     ensures { λ r. ⌜ Starts r ⌝ }
 {
     let index = Index::empty();
-    let blank = blank_receipt();
+    let blank = Receipt::blank();
     let slots = [blank; 64];
     Ring {
         index: index,
@@ -348,7 +318,7 @@ pub fn receipt(ring: Ring, index: usize) -> KeptReceipt
             }
         }
         Found::Nothing => {
-            let blank = blank_receipt();
+            let blank = Receipt::blank();
             KeptReceipt {
                 presence: Presence::Absent,
                 receipt: blank,

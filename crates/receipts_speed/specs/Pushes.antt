@@ -5,11 +5,11 @@ use mathlib.Core.Path.{_≡_}
 use mathlib.Core.List.{List, []}
 use lib.Dec.{eqb}
 use lib.ListN.{getElem?}
+use Rattle.model.specs.Records.{noReceipt}
 use Rattle.model.specs.declared.Decision.{Decision}
 use Rattle.model.specs.declared.Decision.the-variants.{Executed, Rejected}
 use Rattle.model.specs.declared.Receipt.{Receipt}
 use Rattle.rules.specs.Receipts.{keep}
-use Rattle.receipts.specs.Blank.{blank}
 use Rattle.receipts.specs.declared.Index.{Index}
 use Rattle.receipts.specs.Indexes.{Stores, Sound, listOf}
 use Rattle.receipts.specs.Rings.{keptAt}
@@ -21,28 +21,28 @@ decisionOf id kinds = cond (eqb ((kinds / 2 ^ (id % 64)) % 2) 1) Rejected Execut
 unfoldable pub numberedReceipt : ℕ → ℕ → Receipt
 numberedReceipt id kinds =
     record {
-      «boot_id» = blank .«boot_id»;
-      principal = blank .principal;
-      «safety_flags» = blank .«safety_flags»;
+      «boot_id» = noReceipt .«boot_id»;
+      principal = noReceipt .principal;
+      «safety_flags» = noReceipt .«safety_flags»;
       «receipt_id» = id;
-      «action_id» = blank .«action_id»;
-      sequence = blank .sequence;
-      capability = blank .capability;
-      resource = blank .resource;
-      «lease_id» = blank .«lease_id»;
+      «action_id» = noReceipt .«action_id»;
+      sequence = noReceipt .sequence;
+      capability = noReceipt .capability;
+      resource = noReceipt .resource;
+      «lease_id» = noReceipt .«lease_id»;
       decision = decisionOf id kinds;
-      reason = blank .reason;
-      epoch = blank .epoch;
-      «received_at» = blank .«received_at»;
-      «admitted_at» = blank .«admitted_at»;
-      «executed_at» = blank .«executed_at»;
-      requested = blank .requested;
-      observed = blank .observed;
-      «pre_state» = blank .«pre_state»;
-      «post_state» = blank .«post_state»;
-      «original_receipt» = blank .«original_receipt»;
-      dispatched = blank .dispatched;
-      «observed_valid» = blank .«observed_valid»;
+      reason = noReceipt .reason;
+      epoch = noReceipt .epoch;
+      «received_at» = noReceipt .«received_at»;
+      «admitted_at» = noReceipt .«admitted_at»;
+      «executed_at» = noReceipt .«executed_at»;
+      requested = noReceipt .requested;
+      observed = noReceipt .observed;
+      «pre_state» = noReceipt .«pre_state»;
+      «post_state» = noReceipt .«post_state»;
+      «original_receipt» = noReceipt .«original_receipt»;
+      dispatched = noReceipt .dispatched;
+      «observed_valid» = noReceipt .«observed_valid»;
     }
 
 -- what the ring keeps of the receipts 0 to n - 1

@@ -8,7 +8,6 @@ use model::Reason;
 use model::Receipt;
 use receipts::Index;
 use receipts::Ring;
-use receipts::blank_receipt;
 use receipts::is_rejected;
 use receipts::push;
 use receipts::receipt;
@@ -59,7 +58,7 @@ pub extern "C" fn receipts_speed_oldest(pushes: u64, kinds: u64) -> u64
     ensures { λ r. ⌜ r ≡ oldestOf (keptAfter kinds pushes) ⌝ }
 {
     let mut index = Index::empty();
-    let blank = blank_receipt();
+    let blank = Receipt::blank();
     let mut slots = [blank; 64];
     let mut rejections = [0u8; 64];
     let mut others = [0u8; 64];

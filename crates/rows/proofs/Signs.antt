@@ -13,6 +13,7 @@ use lib.IntN.{ℤ, pos, negsuc}
 use lib.ListN.{length, getD, length-map}
 use mir.Syntax.{w32}
 use mir.Val.{SFits, Val}
+use Rattle.words.specs.Signs.{signed, unsigned}
 use Rattle.model.proofs.Capability.{the-row as capability-row}
 use Rattle.model.proofs.Receipt.{the-row as receipt-type}
 use Rattle.model.proofs.Verification.{the-row as verification-row}
@@ -32,26 +33,15 @@ use Rattle.model.specs.declared.ReplaySlot.{ReplaySlot}
 use Rattle.model.specs.declared.Submission.{Submission}
 use Rattle.model.specs.declared.Verification.{Verification}
 use Rattle.model.specs.declared.Verification.the-variants as Verification
-use Rattle.format.specs.Decode.{signed, boundsOf, classOf, verificationOf, capabilityOf, requestOf, renewalOf, actionOf, submissionOf}
-use Rattle.format.specs.Encode.{unsigned, partAt, minAt, maxAt, classNumber, verificationWord, maskWord, valueWord, capabilityWords, leaseWords}
+use Rattle.format.specs.Decode.{boundsOf, classOf, verificationOf, capabilityOf, requestOf, renewalOf, actionOf, submissionOf}
+use Rattle.format.specs.Encode.{partAt, minAt, maxAt, classNumber, verificationWord, maskWord, valueWord, capabilityWords, leaseWords}
 use Rattle.format.proofs.FieldLaws.{bit-back, decision-back, reason-back}
 use Rattle.rows.proofs.Codes.{presence-back}
 use Rattle.rows.specs.Codes.{paired, lowOf, highOf, signsOf, signsWord, presenceWord, decisionOf, reasonOf}
 use Rattle.rows.specs.Rows.{leaseSlotOf, leaseSlotWords, capabilityRow, activeSlotOf, activeSlotWords, replaySlotOf, replaySlotWords, receiptOf, receiptRow, requestRow, renewalRow, submissionRow}
+use Rattle.words.proofs.Signs.{unsigned-below, signed-unsigned}
 
 -- signed numbers ---------------------------------------------------------------------------------------------------------
-
-pub unsigned-below : (z : ℤ) → SFits w32 z → unsigned z < 4294967296
-unfolding unsigned
-unsigned-below (pos n) f = let k : n < 2147483648 = f .sfits in omega arith
-unsigned-below (negsuc n) f = omega arith
-
-signed-unsigned : (z : ℤ) → SFits w32 z → signed (unsigned z) ≡ z
-unfolding signed unsigned
-signed-unsigned (pos n) f = rw (lt-ltb n 2147483648 (f .sfits))
-signed-unsigned (negsuc n) f =
-    let k : n < 2147483648 = f .sfits in
-    rw (le-ltb (4294967295 - n) 2147483648 (omega arith)) (ap negsuc (omega arith))
 
 pub unsigned-low : (z : ℤ) → SFits w32 z → unsigned z % 4294967296 ≡ unsigned z
 unsigned-low z f = mod-eq-of-lt (unsigned-below z f)

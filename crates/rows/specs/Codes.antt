@@ -6,8 +6,10 @@ use mathlib.Core.List.{List, [], _∷_}
 use lib.Dec.{ltb}
 use lib.IntN.{ℤ}
 use lib.ListN.{getD}
+use Rattle.words.specs.Signs.{signed, unsigned}
+use Rattle.model.specs.Decisions.{decisions}
 use Rattle.model.specs.declared.Decision.{Decision}
-use Rattle.model.specs.declared.Decision.the-variants as Decision
+use Rattle.model.specs.declared.Decision.the-variants.{Executed}
 use Rattle.model.specs.declared.Presence.{Presence}
 use Rattle.model.specs.declared.Presence.the-variants.{Absent, Present}
 use Rattle.model.specs.declared.Reason.{Reason}
@@ -15,8 +17,6 @@ use Rattle.model.specs.declared.Reason.the-variants as Reason
 use Rattle.model.specs.declared.RuntimeState.{RuntimeState}
 use Rattle.model.specs.declared.RuntimeState.the-variants as State
 use Rattle.model.specs.Reasons.{reasons}
-use Rattle.format.specs.Decode.{signed}
-use Rattle.format.specs.Encode.{unsigned}
 use Rattle.state.specs.declared.AfterFallback.{AfterFallback}
 use Rattle.state.specs.declared.AfterFallback.the-variants as AfterFallback
 use Rattle.state.specs.declared.AfterRecord.{AfterRecord}
@@ -63,7 +63,7 @@ presenceWord Absent = 0
 presenceWord Present = 1
 
 abbrev pub decisionOf : ℕ → Decision
-decisionOf n = getD (Decision.Executed ∷ Decision.Rejected ∷ Decision.Fallback ∷ Decision.Control ∷ Decision.Failed ∷ []) n Decision.Executed
+decisionOf n = getD decisions n Executed
 
 abbrev pub reasonOf : ℕ → Reason
 reasonOf n = getD reasons n Reason.Ok

@@ -14,9 +14,10 @@ use Rattle.model.specs.declared.Receipt.{Receipt}
 use Rattle.model.specs.declared.Renewal.{Renewal}
 use Rattle.model.specs.declared.ReplaySlot.{ReplaySlot}
 use Rattle.model.specs.declared.Submission.{Submission}
+use Rattle.model.specs.Decisions.{decisionNumber}
 use Rattle.model.specs.Reasons.{number}
 use Rattle.format.specs.Decode.{word, u32At, u16At, u8At, boolAt, boundsAt, capabilityOf}
-use Rattle.format.specs.Encode.{bit, decisionNumber, stateNumber, minAt, maxAt, partAt, capabilityWords, leaseWords}
+use Rattle.format.specs.Encode.{bit, stateNumber, minAt, maxAt, partAt, capabilityWords, leaseWords}
 use Rattle.receipts.specs.declared.Index.{Index}
 use Rattle.state.specs.declared.Carrying.{Carrying}
 use Rattle.state.specs.declared.Falling.{Falling}

@@ -4,9 +4,9 @@ use mathlib.Core.Bool.{Bool, true, false, not, false≢true}
 use mathlib.Core.Path.{_≡_, refl, sym, ap}
 use lib.Dec.{T}
 use lib.ListN.{getD}
+use Rattle.model.specs.Records.{noReceipt}
 use Rattle.model.specs.declared.Reason.{Reason}
 use Rattle.model.specs.declared.Receipt.{Receipt}
-use Rattle.receipts.specs.Blank.{blank}
 use Rattle.rules.specs.Interaction.{Done, Returned, Refused, Submitted}
 use Rattle.rules.specs.Protocol.{proceed}
 use Rattle.rules.specs.Rules.{trip, sense}
@@ -172,11 +172,11 @@ senses-same h flags time same k t e =
 -- the receipt in hand, kept to be answered after a trip ---------------------------------------------------------------------
 
 abbrev pub submitting : Runtime → Runtime
-submitting h = altered (h .waiting) (h .numbers) (h .why) (h .pending) (getD (h .slots) (h .slot) blank) h
+submitting h = altered (h .waiting) (h .numbers) (h .why) (h .pending) (getD (h .slots) (h .slot) noReceipt) h
 
 pub submitting-good : (h : Runtime) → Good h → Good (submitting h)
 submitting-good h k =
-    altered-good h k (h .waiting) (h .numbers) (h .why) (h .pending) (getD (h .slots) (h .slot) blank) (k .sound .counted) (k .sound .order)
+    altered-good h k (h .waiting) (h .numbers) (h .why) (h .pending) (getD (h .slots) (h .slot) noReceipt) (k .sound .counted) (k .sound .order)
 
 pub trips-order : (h : Runtime) (reason : Reason) (c : Course) → Good h
     → Takes (h .fixed) (h .numbers) c (λ b q. trip reason (h .submission .now) b (afterTrip AfterTrip.Submit 0 (h .submission .now) q))

@@ -6,8 +6,8 @@ use mathlib.Core.Path.{_≡_, refl, sym, _∙_}
 use native.Mathlib.Omega.{arith}
 use lib.ListN.{length, getD, set, take, length-set}
 use lib.Seq.{take-set-le, take-set-lt}
+use Rattle.model.specs.Records.{noReceipt}
 use Rattle.model.specs.declared.Receipt.{Receipt}
-use Rattle.receipts.specs.Blank.{blank}
 use Rattle.receipts.specs.declared.Pushed.{Pushed}
 use Rattle.receipts.specs.Indexes.{Stores, Keeps, stored}
 use Rattle.rules.specs.Receipts.{rejected}
@@ -69,7 +69,7 @@ module _ (rt : Runtime) (z : Sized rt) (k : Placed rt) (r : Receipt) (p : Placem
   pub records : stateIn after-it ≡ recorded r after (stateIn rt)
   unfolding recorded
   records =
-      rw (m .index, stores, keeps .list, filled-at (rt .slots) (p .slot) r blank (rw (z .slots) (omega (arith, slot-below))))
+      rw (m .index, stores, keeps .list, filled-at (rt .slots) (p .slot) r noReceipt (rw (z .slots) (omega (arith, slot-below))))
 
   pub records-placed : Placed after-it
   records-placed =

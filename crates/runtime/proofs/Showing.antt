@@ -16,8 +16,7 @@ use Rattle.model.specs.declared.Presence.{Presence}
 use Rattle.model.specs.declared.Presence.the-variants.{Absent, Present}
 use Rattle.model.specs.declared.Reason.{Reason}
 use Rattle.model.specs.declared.Receipt.{Receipt}
-use Rattle.model.specs.Records.{noLease, noCapability}
-use Rattle.receipts.specs.Blank.{blank}
+use Rattle.model.specs.Records.{noLease, noCapability, noReceipt}
 use Rattle.receipts.specs.Indexes.{Points}
 use Rattle.receipts.specs.declared.Found.{Found}
 use Rattle.receipts.specs.declared.Found.the-variants as Found
@@ -290,7 +289,7 @@ receipt-says : (t : Bool) (r : Receipt) → receiptSays (receiptIf t r) ≡ Show
 receipt-says true r = refl
 receipt-says false r = refl
 
-receipt-blank-if : (t : Bool) (r : Receipt) → receiptIf t r .presence ≡ Absent → receiptIf t r .receipt ≡ blank
+receipt-blank-if : (t : Bool) (r : Receipt) → receiptIf t r .presence ≡ Absent → receiptIf t r .receipt ≡ noReceipt
 receipt-blank-if true r e = not-absent e
 receipt-blank-if false r e = refl
 
@@ -298,7 +297,7 @@ receipt-there-if : (t : Bool) (r : Receipt) → receiptIf t r .runtime ≡ Absen
 receipt-there-if true r e = e
 receipt-there-if false r e = refl
 
-receipt-blank : (t : Bool) (slot : ℕ) (r : Receipt) → receiptAt t slot r .presence ≡ Absent → receiptAt t slot r .receipt ≡ blank
+receipt-blank : (t : Bool) (slot : ℕ) (r : Receipt) → receiptAt t slot r .presence ≡ Absent → receiptAt t slot r .receipt ≡ noReceipt
 receipt-blank true slot r e = receipt-blank-if (ltb slot 64) r e
 receipt-blank false slot r e = refl
 
@@ -312,10 +311,10 @@ module _ (rt : Runtime) (k : Kept rt) (index : ℕ) where
   slotFor a b = cond (ltb a 64) (getD (rt .places .rejected) a 0) (cond (ltb b 64) (getD (rt .places .others) b 0) 64)
 
   abbrev FoundAt : ℕ → Type 0
-  FoundAt s = (s < 65) × (getElem? (receiptsIn rt) index ≡ cond (ltb s 64) (some (getD (rt .slots) s blank)) none)
+  FoundAt s = (s < 65) × (getElem? (receiptsIn rt) index ≡ cond (ltb s 64) (some (getD (rt .slots) s noReceipt)) none)
 
-  at-slot : (s : ℕ) → s < 64 → getElem? (receiptsIn rt) index ≡ some (getD (take 64 (rt .slots)) s blank) → FoundAt s
-  at-slot s l e = (omega (arith, l), e ∙ rw (lt-ltb s 64 l, getD-take 64 (rt .slots) s blank l))
+  at-slot : (s : ℕ) → s < 64 → getElem? (receiptsIn rt) index ≡ some (getD (take 64 (rt .slots)) s noReceipt) → FoundAt s
+  at-slot s l e = (omega (arith, l), e ∙ rw (lt-ltb s 64 l, getD-take 64 (rt .slots) s noReceipt l))
 
   found-slot : (f : Found) → Points (rt .places .index) index f → FoundAt (slotFor (rejectedBy f) (othersBy f))
   found-slot (Found.Rejected p) m =
@@ -354,10 +353,10 @@ module _ (rt : Runtime) (k : Kept rt) (index : ℕ) where
     pub noted-low : notedSlot < 65
     noted-low = noted-slot .0
 
-    pub receipt-reads : ReceiptReads index rt (receiptAt (there rt) notedSlot (getD (rt .slots) notedSlot blank))
+    pub receipt-reads : ReceiptReads index rt (receiptAt (there rt) notedSlot (getD (rt .slots) notedSlot noReceipt))
     unfolding read bookOf
     receipt-reads =
-        let r = getD (rt .slots) notedSlot blank in
+        let r = getD (rt .slots) notedSlot noReceipt in
         record {
           shows =
               says rt (ReadReceipt index) (λ t. receiptSays (receiptAt t notedSlot r)) refl
@@ -383,7 +382,7 @@ module _ (rt : Runtime) where
   abbrev itemOn : Awaited → ItemShown
   itemOn w =
       itemFrom w (rt .falling) (getD (rt .capabilities) (rt .carrying .at) noCapability) (rt .submission .action .parameters)
-      (getD (rt .slots) (rt .slot) blank)
+      (getD (rt .slots) (rt .slot) noReceipt)
 
   item-at : (s : Stage) → SoundAt s rt → itemOn (rt .waiting .awaited) ≡ shownItem (awaitedIn (phaseAtStage s rt))
   unfolding SoundAt phaseAtStage phaseOf itemFrom
@@ -403,7 +402,7 @@ module _ (rt : Runtime) where
   lease-answered k = ap (λ (o : Option Lease). Answers (Leased (leaseOr (noLease .lease) o))) (sym (spare-lease rt k (rt .axis)))
 
   pub receipt-answered : outputOf Answer.Submitted (stateIn rt)
-      ≡ Answers (Submitted (answeredAt (rt .waiting .«after_record») (getD (rt .slots) (rt .slot) blank) (rt .submitted)))
+      ≡ Answers (Submitted (answeredAt (rt .waiting .«after_record») (getD (rt .slots) (rt .slot) noReceipt) (rt .submitted)))
   unfolding outputOf
   receipt-answered = refl
 

@@ -5,8 +5,7 @@ use mathlib.Core.Option.{none}
 use mathlib.Core.Path.{_≡_}
 use lib.ListN.{length, getD, take}
 use Rattle.model.specs.declared.Receipt.{Receipt}
-use Rattle.model.specs.Records.{noLease, noActive, noCapability}
-use Rattle.receipts.specs.Blank.{blank}
+use Rattle.model.specs.Records.{noLease, noActive, noCapability, noReceipt}
 use Rattle.receipts.specs.Indexes.{Stores, listOf}
 use Rattle.receipts.specs.Indexes as Indexes
 use Rattle.replay.specs.declared.ReplayRing.{ReplayRing}
@@ -79,7 +78,7 @@ handIn rt =
       falling = rt .falling;
       revoked = rt .revoked;
       order = orderIn rt;
-      receipt = getD (rt .slots) (rt .slot) blank;
+      receipt = getD (rt .slots) (rt .slot) noReceipt;
       axis = rt .axis;
       reason = rt .why .reason;
     }

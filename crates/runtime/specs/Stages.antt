@@ -9,8 +9,7 @@ use Rattle.model.specs.declared.Presence.the-variants.{Absent}
 use Rattle.model.specs.declared.Reason.the-variants.{Startup}
 use Rattle.model.specs.declared.Receipt.{Receipt}
 use Rattle.model.specs.declared.RuntimeState.the-variants.{Faulted}
-use Rattle.model.specs.Records.{noLease, noCapability}
-use Rattle.receipts.specs.Blank as Blank
+use Rattle.model.specs.Records.{noLease, noCapability, noReceipt}
 use Rattle.receipts.specs.Indexes as Indexes
 use Rattle.receipts.specs.Indexes.{listOf}
 use Rattle.rules.specs.Protocol.{Start, Reading, ReadState, ReadConfig, ReadSnapshot, ReadLease, ReadCapability, ReadReceipt, Phase, Starting, Gone, Reaction, opening, bookIn, shown}
@@ -142,5 +141,5 @@ pub record CapabilityReads (index : ℕ) (rt : Runtime) (r : CapabilityShown) : 
 
 pub record ReceiptReads (index : ℕ) (rt : Runtime) (r : ReceiptShown) : Type 0 where
   pub shows : receiptSays r ≡ shown (ReadReceipt index) (bookIn (phaseIn rt))
-  pub blank : r .presence ≡ Absent → r .receipt ≡ Blank.blank
+  pub blank : r .presence ≡ Absent → r .receipt ≡ noReceipt
   pub unread : r .runtime ≡ Absent → r .presence ≡ Absent

@@ -97,7 +97,6 @@ use model::Replay;
 use model::ReplaySlot;
 use model::Submission;
 use receipts::Index;
-use receipts::blank_receipt;
 use receipts::push;
 use state::AfterFallback;
 use state::AfterRecord;
@@ -1096,7 +1095,7 @@ fn made(config: Config, listed: Listed, boot_id: u64, time: u64, flags: u32) -> 
     let lease = LeaseSlot::blank();
     let active = ActiveSlot::blank();
     let entry = ReplaySlot::blank();
-    let receipt = blank_receipt();
+    let receipt = Receipt::blank();
     let runtime = Runtime {
         waiting: waiting,
         numbers: numbers_of(config, time, flags),

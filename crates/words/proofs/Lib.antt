@@ -1,2 +1,5 @@
 pub mod Over
 pub mod Ends
+pub mod Numbers
+pub mod SignLaws
+pub mod Signs

@@ -1,5 +1,5 @@
--- Words of 8 bytes, little end first, in a list of bytes (docs/WIRE.md).
-use Prim.Native.Nat.{ℕ, zero, suc, _+_, _*_, _/_, _%_}
+-- Words of 8 bytes, little end first, in a list of bytes (docs/WIRE.md); numbers of any width in bytes.
+use Prim.Native.Nat.{ℕ, zero, suc, _+_, _*_, _/_, _%_, _<_}
 use mathlib.Core.List.{List, [], _∷_, _++_}
 use lib.ListN.{length, take, drop, getD}
 
@@ -24,6 +24,16 @@ wordsAt (suc n) bs i = wordAt bs i ∷ wordsAt n bs (i + 8)
 -- the words of the input record whose first byte stands at a place: 16 of them, 128 bytes
 abbrev pub recordAt : List ℕ → ℕ → List ℕ
 recordAt bs i = wordsAt 16 bs i
+
+-- every number of a list is a byte
+abbrev pub Bytes : List ℕ → Type 0
+Bytes [] = Unit {0}
+Bytes (b ∷ bs) = (b < 256) × Bytes bs
+
+-- the number that bytes stand for, little end first
+unfoldable pub littleNumber : List ℕ → ℕ
+littleNumber [] = 0
+littleNumber (b ∷ bs) = b + 256 * littleNumber bs
 
 -- writing ----------------------------------------------------------------------------------------------------------------
 

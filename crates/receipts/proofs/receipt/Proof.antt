@@ -65,8 +65,8 @@ array-copy-out-kept-2 c =
 enum-told : tie.Need-enum-told
 enum-told c = search needs
 
-blank-receipt-requires : tie.Need-blank-receipt-requires
-blank-receipt-requires c κs = search needs
+blank-requires : tie.Need-blank-requires
+blank-requires c κs = search needs
 
 returns : tie.Need-returns
 returns c =
@@ -86,7 +86,7 @@ returns-3 : tie.Need-returns-3
 returns-3 c =
     let a = c .before .before .before .before .before .before .before .before in
     let f = c .before .before .before .place-of in
-    rw (c .blank-receipt .ensures) (kept-nothing (a .args .ring .index) (a .args .index) (f .result) (f .ensures) (storesOf (a .args .ring)) (a .pre) (c .before .enum-told .given .1))
+    rw (c .blank .ensures) (kept-nothing (a .args .ring .index) (a .args .index) (f .result) (f .ensures) (storesOf (a .args .ring)) (a .pre) (c .before .enum-told .given .1))
 
 pub receipt-spec : {M : Type 1} → statement M
 receipt-spec =
@@ -104,7 +104,7 @@ receipt-spec =
     mul-kept-2
     array-copy-out-kept-2
     enum-told
-    blank-receipt-requires
+    blank-requires
     returns
     returns-2
     returns-3)

@@ -1,8 +1,8 @@
 use mathlib.Core.Path.{_≡_, refl}
 use mathlib.Core.Option.{Option, none, some}
 use lib.ListN.{getElem?}
+use Rattle.model.specs.Records.{noReceipt}
 use Rattle.model.specs.declared.Receipt.{Receipt}
-use Rattle.receipts.specs.Blank.{blank}
 use Rattle.receipts.specs.Rings.{receiptsOf, keptAt}
 use Rattle.receipts_main.specs.CaseG.{numberOf}
 use borrow.Author.Needs.{needs}
@@ -10,7 +10,7 @@ use Rattle.receipts_main.proofs.number_at.Statement.{statement}
 use Rattle.receipts_main.proofs.number_at.Tie as tie
 
 number-of : (o : Option Receipt) → keptAt o .receipt .«receipt_id» ≡ numberOf o
-unfolding keptAt numberOf blank
+unfolding keptAt numberOf noReceipt
 number-of none = refl
 number-of (some r) = refl
 

@@ -1,4 +1,4 @@
-use Rattle.receipts.specs.Blank.{blank}
+use Rattle.model.specs.Records.{noReceipt}
 use Rattle.receipts_speed.specs.Pushes.{numberedReceipt}
 use borrow.Author.Needs.{needs}
 use Rattle.receipts_speed.proofs.numbered.Statement.{statement}
@@ -8,7 +8,7 @@ decision-of-requires : tie.Need-decision-of-requires
 decision-of-requires c κs = search needs
 
 returns : tie.Need-returns
-unfolding numberedReceipt blank
+unfolding numberedReceipt noReceipt
 returns c = rw (c .decision-of .ensures)
 
 pub numbered-spec : {M : Type 1} → statement M

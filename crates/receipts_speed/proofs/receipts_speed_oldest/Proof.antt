@@ -17,8 +17,8 @@ abbrev μ-loop : tie.MeasureT-loop
 empty-requires : tie.Need-empty-requires Inv-loop μ-loop
 empty-requires c κs = search needs
 
-blank-receipt-requires : tie.Need-blank-receipt-requires Inv-loop μ-loop
-blank-receipt-requires c κs = search needs
+blank-requires : tie.Need-blank-requires Inv-loop μ-loop
+blank-requires c κs = search needs
 
 loop-holds : tie.Need-loop-holds Inv-loop μ-loop
 loop-holds c = (search needs, none-yet (c .before .empty .ensures) (record { rejections = refl; others = refl; receipts = refl }))
@@ -110,7 +110,7 @@ receipts-speed-oldest-spec =
     Inv-loop
     μ-loop
     empty-requires
-    blank-receipt-requires
+    blank-requires
     loop-holds
     numbered-requires
     is-rejected-requires

@@ -6,24 +6,6 @@ use borrow.Author.Needs.{needs}
 use Rattle.rows.proofs.falling_words.Statement.{statement}
 use Rattle.rows.proofs.falling_words.Tie as tie
 
-cast-t5 : tie.Need-cast-t5
-cast-t5 c = search needs
-
-cast-t6 : tie.Need-cast-t6
-cast-t6 c = search needs
-
-reason-number-requires : tie.Need-reason-number-requires
-reason-number-requires c κs = search needs
-
-after-fallback-word-requires : tie.Need-after-fallback-word-requires
-after-fallback-word-requires c κs = search needs
-
-bit-requires : tie.Need-bit-requires
-bit-requires c κs = search needs
-
-after-trip-word-requires : tie.Need-after-trip-word-requires
-after-trip-word-requires c κs = search needs
-
 returns : tie.Need-returns
 unfolding fallingOf fallingWords
 returns c =
@@ -34,10 +16,10 @@ pub falling-words-spec : {M : Type 1} → statement M
 falling-words-spec =
     tie.close
     (tie.spec
-    cast-t5
-    cast-t6
-    reason-number-requires
-    after-fallback-word-requires
-    bit-requires
-    after-trip-word-requires
+    (λ c. search needs)
+    (λ c. search needs)
+    (λ c κs. search needs)
+    (λ c κs. search needs)
+    (λ c κs. search needs)
+    (λ c κs. search needs)
     returns)

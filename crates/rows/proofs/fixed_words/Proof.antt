@@ -17,72 +17,6 @@ use Rattle.rows.proofs.fixed_words.Reads as reads
 use Rattle.rows.proofs.fixed_words.Lts as lts
 use Rattle.format.proofs.bit.Reads as bit-reads
 
-cast-t4 : tie.Need-cast-t4
-cast-t4 c = search needs
-
-cast-t5 : tie.Need-cast-t5
-cast-t5 c = search needs
-
-cast-t6 : tie.Need-cast-t6
-cast-t6 c = search needs
-
-cast-t7 : tie.Need-cast-t7
-cast-t7 c = search needs
-
-cast-t8 : tie.Need-cast-t8
-cast-t8 c = search needs
-
-cast-t9 : tie.Need-cast-t9
-cast-t9 c = search needs
-
-array-read-bit : tie.Need-array-read-bit
-array-read-bit c = search needs
-
-bit-requires : tie.Need-bit-requires
-bit-requires c κs = search needs
-
-array-read-bit-2 : tie.Need-array-read-bit-2
-array-read-bit-2 c = search needs
-
-bit-requires-2 : tie.Need-bit-requires-2
-bit-requires-2 c κs = search needs
-
-array-read-bit-3 : tie.Need-array-read-bit-3
-array-read-bit-3 c = search needs
-
-bit-requires-3 : tie.Need-bit-requires-3
-bit-requires-3 c κs = search needs
-
-array-read-bit-4 : tie.Need-array-read-bit-4
-array-read-bit-4 c = search needs
-
-bit-requires-4 : tie.Need-bit-requires-4
-bit-requires-4 c κs = search needs
-
-array-read-bit-5 : tie.Need-array-read-bit-5
-array-read-bit-5 c = search needs
-
-bit-requires-5 : tie.Need-bit-requires-5
-bit-requires-5 c κs = search needs
-
-array-read-bit-6 : tie.Need-array-read-bit-6
-array-read-bit-6 c = search needs
-
-bit-requires-6 : tie.Need-bit-requires-6
-bit-requires-6 c κs = search needs
-
-array-read-bit-7 : tie.Need-array-read-bit-7
-array-read-bit-7 c = search needs
-
-bit-requires-7 : tie.Need-bit-requires-7
-bit-requires-7 c κs = search needs
-
-array-read-bit-8 : tie.Need-array-read-bit-8
-array-read-bit-8 c = search needs
-
-bit-requires-8 : tie.Need-bit-requires-8
-bit-requires-8 c κs = search needs
-
 module _ (x : Fixed) where
   -- the row, of the bits that the code makes
   row-of : {u₀ u₁ u₂ u₃ u₄ u₅ u₆ u₇ : ℕ} → u₀ ≡ bit (getD (x .used) 0 false) → u₁ ≡ bit (getD (x .used) 1 false)
@@ -138,26 +72,26 @@ pub fixed-words-spec : {M : Type 1} → statement M
 fixed-words-spec =
     tie.close
     (tie.spec
-    cast-t4
-    cast-t5
-    cast-t6
-    cast-t7
-    cast-t8
-    cast-t9
-    array-read-bit
-    bit-requires
-    array-read-bit-2
-    bit-requires-2
-    array-read-bit-3
-    bit-requires-3
-    array-read-bit-4
-    bit-requires-4
-    array-read-bit-5
-    bit-requires-5
-    array-read-bit-6
-    bit-requires-6
-    array-read-bit-7
-    bit-requires-7
-    array-read-bit-8
-    bit-requires-8
+    (λ c. search needs)
+    (λ c. search needs)
+    (λ c. search needs)
+    (λ c. search needs)
+    (λ c. search needs)
+    (λ c. search needs)
+    (λ c. search needs)
+    (λ c κs. search needs)
+    (λ c. search needs)
+    (λ c κs. search needs)
+    (λ c. search needs)
+    (λ c κs. search needs)
+    (λ c. search needs)
+    (λ c κs. search needs)
+    (λ c. search needs)
+    (λ c κs. search needs)
+    (λ c. search needs)
+    (λ c κs. search needs)
+    (λ c. search needs)
+    (λ c κs. search needs)
+    (λ c. search needs)
+    (λ c κs. search needs)
     returns)

@@ -4,9 +4,6 @@ use borrow.Author.Needs.{needs}
 use Rattle.rows.proofs.revoked_words.Statement.{statement}
 use Rattle.rows.proofs.revoked_words.Tie as tie
 
-bit-requires : tie.Need-bit-requires
-bit-requires c κs = search needs
-
 returns : tie.Need-returns
 unfolding revokedOf revokedWords
 returns c =
@@ -16,4 +13,8 @@ returns c =
     }
 
 pub revoked-words-spec : {M : Type 1} → statement M
-revoked-words-spec = tie.close (tie.spec bit-requires returns)
+revoked-words-spec =
+    tie.close
+    (tie.spec
+    (λ c κs. search needs)
+    returns)

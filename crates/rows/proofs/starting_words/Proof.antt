@@ -5,12 +5,6 @@ use borrow.Author.Needs.{needs}
 use Rattle.rows.proofs.starting_words.Statement.{statement}
 use Rattle.rows.proofs.starting_words.Tie as tie
 
-stage-word-requires : tie.Need-stage-word-requires
-stage-word-requires c κs = search needs
-
-bit-requires : tie.Need-bit-requires
-bit-requires c κs = search needs
-
 returns : tie.Need-returns
 unfolding startingOf startingWords
 returns c =
@@ -20,4 +14,9 @@ returns c =
     }
 
 pub starting-words-spec : {M : Type 1} → statement M
-starting-words-spec = tie.close (tie.spec stage-word-requires bit-requires returns)
+starting-words-spec =
+    tie.close
+    (tie.spec
+    (λ c κs. search needs)
+    (λ c κs. search needs)
+    returns)

@@ -83,7 +83,7 @@ use Rattle.runtime.specs.Stages.{RuntimeSound}
 use Rattle.rules.specs.Interaction.{Submitted}
 use Rattle.rules.specs.Protocol.{Answers}
 use Rattle.runtime.specs.Runtimes.{stateIn}
-use Rattle.receipts.specs.Blank.{blank}
+use Rattle.model.specs.Records.{noReceipt}
 use Rattle.runtime.proofs.Showing.{receipt-answered}
 
 abbrev Arg : Type 0
@@ -129,22 +129,22 @@ module _ {M : Type 1} (𝓤 : URA M) (H : Heap 𝓤) (A : Atoms 𝓤) (W : Given
 
   module _ where
     abbrev given1 : (Waiting × (Receipt × (Receipt × Unit {0})))
-    given1 = (h₀ .waiting, (getD (h₀ .slots) (h₀ .slot) blank, (h₀ .submitted, tt)))
+    given1 = (h₀ .waiting, (getD (h₀ .slots) (h₀ .slot) noReceipt, (h₀ .submitted, tt)))
 
     abbrev to1 : tripleOf 𝓤 H A c-submitted_of.signature (c-submitted_of.spec 𝓤 H A at-mem run) .Ghost
-    to1 = ((tt, tt, tt, given1, (vWaiting (h₀ .waiting) ∷ [], (vReceipt (getD (h₀ .slots) (h₀ .slot) blank) ∷ [], (vReceipt (h₀ .submitted) ∷ [], tt)))), tt)
+    to1 = ((tt, tt, tt, given1, (vWaiting (h₀ .waiting) ∷ [], (vReceipt (getD (h₀ .slots) (h₀ .slot) noReceipt) ∷ [], (vReceipt (h₀ .submitted) ∷ [], tt)))), tt)
 
     abbrev Got1 : Receipt → SProp 𝓤
     Got1 r1 = ensured 𝓤 H A c-submitted_of.ended (c-submitted_of.clauses 𝓤 H A at-mem run) tt given1 tt r1
 
-    got1 : (r1 : Receipt) → ent 𝓤 (Got1 r1) (fact 𝓤 (r1 ≡ answeredAt ((h₀ .waiting) .«after_record») (getD (h₀ .slots) (h₀ .slot) blank) (h₀ .submitted)))
-    got1 r1 = exE 𝓤 _ (λ ws. snd∗ 𝓤 (sem 𝓤 H A (lasts c-submitted_of.ended tt given1 ws)) (fact 𝓤 (r1 ≡ answeredAt ((h₀ .waiting) .«after_record») (getD (h₀ .slots) (h₀ .slot) blank) (h₀ .submitted))))
+    got1 : (r1 : Receipt) → ent 𝓤 (Got1 r1) (fact 𝓤 (r1 ≡ answeredAt ((h₀ .waiting) .«after_record») (getD (h₀ .slots) (h₀ .slot) noReceipt) (h₀ .submitted)))
+    got1 r1 = exE 𝓤 _ (λ ws. snd∗ 𝓤 (sem 𝓤 H A (lasts c-submitted_of.ended tt given1 ws)) (fact 𝓤 (r1 ≡ answeredAt ((h₀ .waiting) .«after_record») (getD (h₀ .slots) (h₀ .slot) noReceipt) (h₀ .submitted))))
 
-    is-of1 : (r1 : Receipt) (v1 : Val) → Is tReceipt.the-row r1 (v1 ∷ []) → r1 ≡ answeredAt ((h₀ .waiting) .«after_record») (getD (h₀ .slots) (h₀ .slot) blank) (h₀ .submitted) → Is tReceipt.the-row (answeredAt ((h₀ .waiting) .«after_record») (getD (h₀ .slots) (h₀ .slot) blank) (h₀ .submitted)) (vReceipt (answeredAt ((h₀ .waiting) .«after_record») (getD (h₀ .slots) (h₀ .slot) blank) (h₀ .submitted)) ∷ [])
+    is-of1 : (r1 : Receipt) (v1 : Val) → Is tReceipt.the-row r1 (v1 ∷ []) → r1 ≡ answeredAt ((h₀ .waiting) .«after_record») (getD (h₀ .slots) (h₀ .slot) noReceipt) (h₀ .submitted) → Is tReceipt.the-row (answeredAt ((h₀ .waiting) .«after_record») (getD (h₀ .slots) (h₀ .slot) noReceipt) (h₀ .submitted)) (vReceipt (answeredAt ((h₀ .waiting) .«after_record») (getD (h₀ .slots) (h₀ .slot) noReceipt) (h₀ .submitted)) ∷ [])
     is-of1 r1 v1 is1 e1 = subst (λ (r1 : Receipt). Is tReceipt.the-row r1 (vReceipt r1 ∷ [])) (e1) (subst (Is tReceipt.the-row r1) (LL.tells tReceipt.the-type tReceipt′.the-laws r1 (v1 ∷ []) is1) is1)
 
-    goes1 : Is tWaiting.the-row (h₀ .waiting) (vWaiting (h₀ .waiting) ∷ []) → Is tReceipt.the-row (getD (h₀ .slots) (h₀ .slot) blank) (vReceipt (getD (h₀ .slots) (h₀ .slot) blank) ∷ []) → Is tReceipt.the-row (h₀ .submitted) (vReceipt (h₀ .submitted) ∷ []) → ent 𝓤 (emp 𝓤) (Call1 .pre to1)
-    goes1 p0 p1 p2 = qed W [] ∵ nothing ! $ owned ! tReceipt.the-row (Is tReceipt.the-row) (LL.makes tReceipt.the-type tReceipt′.the-plain 𝓤 H A) (h₀ .submitted) _ p2 $ fjoin ! $ owned ! tReceipt.the-row (Is tReceipt.the-row) (LL.makes tReceipt.the-type tReceipt′.the-plain 𝓤 H A) (getD (h₀ .slots) (h₀ .slot) blank) _ p1 $ fjoin ! $ owned ! tWaiting.the-row (Is tWaiting.the-row) (LL.makes tWaiting.the-type tWaiting′.the-plain 𝓤 H A) (h₀ .waiting) _ p0 $ fjoin ! $ nothing ! $ join ! $ frame ! $ done !
+    goes1 : Is tWaiting.the-row (h₀ .waiting) (vWaiting (h₀ .waiting) ∷ []) → Is tReceipt.the-row (getD (h₀ .slots) (h₀ .slot) noReceipt) (vReceipt (getD (h₀ .slots) (h₀ .slot) noReceipt) ∷ []) → Is tReceipt.the-row (h₀ .submitted) (vReceipt (h₀ .submitted) ∷ []) → ent 𝓤 (emp 𝓤) (Call1 .pre to1)
+    goes1 p0 p1 p2 = qed W [] ∵ nothing ! $ owned ! tReceipt.the-row (Is tReceipt.the-row) (LL.makes tReceipt.the-type tReceipt′.the-plain 𝓤 H A) (h₀ .submitted) _ p2 $ fjoin ! $ owned ! tReceipt.the-row (Is tReceipt.the-row) (LL.makes tReceipt.the-type tReceipt′.the-plain 𝓤 H A) (getD (h₀ .slots) (h₀ .slot) noReceipt) _ p1 $ fjoin ! $ owned ! tWaiting.the-row (Is tWaiting.the-row) (LL.makes tWaiting.the-type tWaiting′.the-plain 𝓤 H A) (h₀ .waiting) _ p0 $ fjoin ! $ nothing ! $ join ! $ frame ! $ done !
 
   module _ (𝓣 : Tables 𝓤 H) (known-submitted-of : Triple 𝓤 (𝓣 .C #decide-read·submitted-of) (tripleOf 𝓤 H A c-submitted_of.signature (c-submitted_of.spec 𝓤 H A at-mem run))) where
     abbrev C : Calls 𝓤 H
@@ -170,19 +170,19 @@ module _ {M : Type 1} (𝓤 : URA M) (H : Heap 𝓤) (A : Atoms 𝓤) (W : Given
           assigns ! (addr ! (from ! (hop ! (look ! 21 refl) (fld ! {τ = (tyArray mirReceipt 65)} {d = 3856} refl (stop !))))) (from ! (stop !)) (init ! 9 refl (tt, tt)) $
           assigns ! (bin ! (load ! (from ! (stop !)) (look ! 9 refl)) (load ! (from ! (stop !)) (look ! 11 refl)) tt) (from ! (stop !)) (init ! 7 refl (tt, tt)) $
           rewrite ! 7 (λ (n : ℕ). ‵ (fat fullShare tyPtr l₈ 0 (vptr blk n))) (sym (place-is 128 _ (h₀ .slot))) refl $
-          assigns ! (of-opd ! (load ! (from ! (hop ! (look ! 7 refl) (stop !))) (look-in ! 0 (item-at ! tReceipt.the-field tReceipt′.the-field-laws 65 (h₀ .slots) (LL.owed tRuntime.the-type tRuntime′.the-laws h₀ (vRuntime h₀ ∷ []) was1 .1 .1 .1 .1 .1 .1 .1 .1 .1 .1 .1 .1 .1 .1 .1 .1 .1 .1 .1 .1 .1 .0) (h₀ .slot) blank (good .kept .placed .slot) (sub ! 21 {τ = (tyArray mirReceipt 65)} {d = 3856} refl (whole-raw ! mirRuntime)))))) (from ! (stop !)) (init ! 5 refl (LL.lawful tReceipt.the-type tReceipt′.the-laws 𝓤 H A W .typed (getD (h₀ .slots) (h₀ .slot) blank) _ (table-at tReceipt.the-field tReceipt′.the-field-laws 65 (h₀ .slots) (LL.owed tRuntime.the-type tRuntime′.the-laws h₀ (vRuntime h₀ ∷ []) was1 .1 .1 .1 .1 .1 .1 .1 .1 .1 .1 .1 .1 .1 .1 .1 .1 .1 .1 .1 .1 .1 .0) (h₀ .slot) blank (good .kept .placed .slot)) .0)) $
-          assigns ! (of-opd ! (load ! (from ! (stop !)) (look ! 5 refl))) (from ! (stop !)) (init ! 15 refl (LL.lawful tReceipt.the-type tReceipt′.the-laws 𝓤 H A W .typed (getD (h₀ .slots) (h₀ .slot) blank) _ (table-at tReceipt.the-field tReceipt′.the-field-laws 65 (h₀ .slots) (LL.owed tRuntime.the-type tRuntime′.the-laws h₀ (vRuntime h₀ ∷ []) was1 .1 .1 .1 .1 .1 .1 .1 .1 .1 .1 .1 .1 .1 .1 .1 .1 .1 .1 .1 .1 .1 .0) (h₀ .slot) blank (good .kept .placed .slot)) .0)) $
+          assigns ! (of-opd ! (load ! (from ! (hop ! (look ! 7 refl) (stop !))) (look-in ! 0 (item-at ! tReceipt.the-field tReceipt′.the-field-laws 65 (h₀ .slots) (LL.owed tRuntime.the-type tRuntime′.the-laws h₀ (vRuntime h₀ ∷ []) was1 .1 .1 .1 .1 .1 .1 .1 .1 .1 .1 .1 .1 .1 .1 .1 .1 .1 .1 .1 .1 .1 .0) (h₀ .slot) noReceipt (good .kept .placed .slot) (sub ! 21 {τ = (tyArray mirReceipt 65)} {d = 3856} refl (whole-raw ! mirRuntime)))))) (from ! (stop !)) (init ! 5 refl (LL.lawful tReceipt.the-type tReceipt′.the-laws 𝓤 H A W .typed (getD (h₀ .slots) (h₀ .slot) noReceipt) _ (table-at tReceipt.the-field tReceipt′.the-field-laws 65 (h₀ .slots) (LL.owed tRuntime.the-type tRuntime′.the-laws h₀ (vRuntime h₀ ∷ []) was1 .1 .1 .1 .1 .1 .1 .1 .1 .1 .1 .1 .1 .1 .1 .1 .1 .1 .1 .1 .1 .1 .0) (h₀ .slot) noReceipt (good .kept .placed .slot)) .0)) $
+          assigns ! (of-opd ! (load ! (from ! (stop !)) (look ! 5 refl))) (from ! (stop !)) (init ! 15 refl (LL.lawful tReceipt.the-type tReceipt′.the-laws 𝓤 H A W .typed (getD (h₀ .slots) (h₀ .slot) noReceipt) _ (table-at tReceipt.the-field tReceipt′.the-field-laws 65 (h₀ .slots) (LL.owed tRuntime.the-type tRuntime′.the-laws h₀ (vRuntime h₀ ∷ []) was1 .1 .1 .1 .1 .1 .1 .1 .1 .1 .1 .1 .1 .1 .1 .1 .1 .1 .1 .1 .1 .1 .0) (h₀ .slot) noReceipt (good .kept .placed .slot)) .0)) $
           assigns ! (of-opd ! (load ! (from ! (hop ! (look ! 21 refl) (fld ! {τ = mirReceipt} {d = 3728} refl (stop !)))) (look-in ! 0 (sub ! 20 {τ = mirReceipt} {d = 3728} refl (whole-raw ! mirRuntime))))) (from ! (stop !)) (init ! 13 refl (LL.lawful tReceipt.the-type tReceipt′.the-laws 𝓤 H A W .typed (h₀ .submitted) _ (LL.owed tRuntime.the-type tRuntime′.the-laws h₀ (vRuntime h₀ ∷ []) was1 .1 .1 .1 .1 .1 .1 .1 .1 .1 .1 .1 .1 .1 .1 .1 .1 .1 .1 .1 .1 .0) .0)) $
-          use0 W (raw (Call1 .pre (to1))) (goes1 (LL.owed tRuntime.the-type tRuntime′.the-laws h₀ (vRuntime h₀ ∷ []) was1 .0) (table-at tReceipt.the-field tReceipt′.the-field-laws 65 (h₀ .slots) (LL.owed tRuntime.the-type tRuntime′.the-laws h₀ (vRuntime h₀ ∷ []) was1 .1 .1 .1 .1 .1 .1 .1 .1 .1 .1 .1 .1 .1 .1 .1 .1 .1 .1 .1 .1 .1 .0) (h₀ .slot) blank (good .kept .placed .slot)) (LL.owed tRuntime.the-type tRuntime′.the-laws h₀ (vRuntime h₀ ∷ []) was1 .1 .1 .1 .1 .1 .1 .1 .1 .1 .1 .1 .1 .1 .1 .1 .1 .1 .1 .1 .1 .0)) $
+          use0 W (raw (Call1 .pre (to1))) (goes1 (LL.owed tRuntime.the-type tRuntime′.the-laws h₀ (vRuntime h₀ ∷ []) was1 .0) (table-at tReceipt.the-field tReceipt′.the-field-laws 65 (h₀ .slots) (LL.owed tRuntime.the-type tRuntime′.the-laws h₀ (vRuntime h₀ ∷ []) was1 .1 .1 .1 .1 .1 .1 .1 .1 .1 .1 .1 .1 .1 .1 .1 .1 .1 .1 .1 .1 .1 .0) (h₀ .slot) noReceipt (good .kept .placed .slot)) (LL.owed tRuntime.the-type tRuntime′.the-laws h₀ (vRuntime h₀ ∷ []) was1 .1 .1 .1 .1 .1 .1 .1 .1 .1 .1 .1 .1 .1 .1 .1 .1 .1 .1 .1 .1 .0)) $
           calls-at ! fm Call1 known-submitted-of (to1) (and-then ! (load ! (from ! (stop !)) (look ! 20 refl)) (and-then ! (load ! (from ! (stop !)) (look ! 16 refl)) (and-then ! (load ! (from ! (stop !)) (look ! 14 refl)) (no-more !)))) (λ v1.
           use1 W (later (some (λ (r1 : Receipt). (‵ ftrue ⊛ ‵ (tReceipt.the-row .own r1 (v1 ∷ []))) ⊛ raw (Got1 r1)))) (id⊢ 𝓤 _) $ await ! tt $ pick ! (λ r1.
-          split ! $ move ! (1 ∷ []) $ use1 W (raw (fact 𝓤 (r1 ≡ answeredAt ((h₀ .waiting) .«after_record») (getD (h₀ .slots) (h₀ .slot) blank) (h₀ .submitted)))) (got1 r1) $ heard ! (r1 ≡ answeredAt ((h₀ .waiting) .«after_record») (getD (h₀ .slots) (h₀ .slot) blank) (h₀ .submitted)) (λ e1. split ! $ drop ! $ peeks ! tReceipt.the-row (Is tReceipt.the-row) (shows 𝓤 H A tReceipt.the-row) r1 (v1 ∷ []) (λ is1. drop ! $
+          split ! $ move ! (1 ∷ []) $ use1 W (raw (fact 𝓤 (r1 ≡ answeredAt ((h₀ .waiting) .«after_record») (getD (h₀ .slots) (h₀ .slot) noReceipt) (h₀ .submitted)))) (got1 r1) $ heard ! (r1 ≡ answeredAt ((h₀ .waiting) .«after_record») (getD (h₀ .slots) (h₀ .slot) noReceipt) (h₀ .submitted)) (λ e1. split ! $ drop ! $ peeks ! tReceipt.the-row (Is tReceipt.the-row) (shows 𝓤 H A tReceipt.the-row) r1 (v1 ∷ []) (λ is1. drop ! $
           land ! (from ! (stop !)) (init ! 23 refl (LL.lawful tReceipt.the-type tReceipt′.the-laws 𝓤 H A W .typed r1 _ is1 .0)) $
           rewrite ! 23 (λ (u : Val). ‵ (fat fullShare mirReceipt l₀ 0 u)) (ap only (LL.tells tReceipt.the-type tReceipt′.the-laws r1 (v1 ∷ []) is1) ∙ ap (λ (u : Receipt). vReceipt u) (e1)) refl $
           shuts ! tt tRuntime.the-row q1 h₀ (vRuntime h₀ ∷ []) blk off $
           returns ! (look ! 21 refl) $ forget ! 3 refl $ forget ! 5 refl $ forget ! 7 refl $ forget ! 9 refl $ forget ! 11 refl $ forget ! 13 refl $ forget ! 15 refl $ forget ! 17 refl $ forget ! 19 refl $ forget ! 21 refl $
           move ! (21 ∷ 22 ∷ []) $ free1 ! $ move ! (19 ∷ 20 ∷ []) $ free1 ! $ move ! (17 ∷ 18 ∷ []) $ free1 ! $ move ! (15 ∷ 16 ∷ []) $ free1 ! $ move ! (13 ∷ 14 ∷ []) $ free1 ! $ move ! (11 ∷ 12 ∷ []) $ free1 ! $ move ! (9 ∷ 10 ∷ []) $ free1 ! $ move ! (7 ∷ 8 ∷ []) $ free1 ! $ move ! (5 ∷ 6 ∷ []) $ free1 ! $ move ! (3 ∷ 4 ∷ []) $ free1 ! $ free0 ! $
-          by ! (exits (answeredAt ((h₀ .waiting) .«after_record») (getD (h₀ .slots) (h₀ .slot) blank) (h₀ .submitted)) (receipt-answered h₀) (is-of1 r1 v1 is1 e1))))))))
+          by ! (exits (answeredAt ((h₀ .waiting) .«after_record») (getD (h₀ .slots) (h₀ .slot) noReceipt) (h₀ .submitted)) (receipt-answered h₀) (is-of1 r1 v1 is1 e1))))))))
 
     walk-shape : ent 𝓤 (⋆ 𝓤 H A (‵ (fres γ (tRuntime.the-row .coded .code h₀)) ∷ ‵ (fshr-bor κ (λ s. partAt tRuntime.the-row s h₀ blk off)) ∷ ‵ (flft κ share) ∷ [])) (WpFn 𝓤 H C Λ fn (vptr blk off ∷ []) Post)
     walk-shape =

@@ -107,8 +107,7 @@ use Rattle.runtime.proofs.item.Code as code
 use Rattle.decide_read.specs.Shown.{itemFrom, shownItem}
 use Rattle.runtime.specs.Stages.{RuntimeSound, phaseIn}
 use Rattle.rules.specs.Protocol.{awaitedIn}
-use Rattle.receipts.specs.Blank.{blank}
-use Rattle.model.specs.Records.{noCapability}
+use Rattle.model.specs.Records.{noReceipt, noCapability}
 use Rattle.runtime.proofs.Showing.{item-shown}
 
 abbrev Arg : Type 0
@@ -157,22 +156,22 @@ module _ {M : Type 1} (𝓤 : URA M) (H : Heap 𝓤) (A : Atoms 𝓤) (W : Given
 
   module _ where
     abbrev given1 : (Waiting × (Falling × (Capability × ((List ℤ) × (Receipt × Unit {0})))))
-    given1 = (h₀ .waiting, (h₀ .falling, (getD (h₀ .capabilities) (h₀ .carrying .at) noCapability, (h₀ .submission .action .parameters, (getD (h₀ .slots) (h₀ .slot) blank, tt)))))
+    given1 = (h₀ .waiting, (h₀ .falling, (getD (h₀ .capabilities) (h₀ .carrying .at) noCapability, (h₀ .submission .action .parameters, (getD (h₀ .slots) (h₀ .slot) noReceipt, tt)))))
 
     abbrev to1 : tripleOf 𝓤 H A c-item_of.signature (c-item_of.spec 𝓤 H A at-mem run) .Ghost
-    to1 = ((tt, tt, tt, given1, (vWaiting (h₀ .waiting) ∷ [], (vFalling (h₀ .falling) ∷ [], (vCapability (getD (h₀ .capabilities) (h₀ .carrying .at) noCapability) ∷ [], (vstruct (ofList (cellsOf i32-field LL.i32-laws (h₀ .submission .action .parameters))) ∷ [], (vReceipt (getD (h₀ .slots) (h₀ .slot) blank) ∷ [], tt)))))), tt)
+    to1 = ((tt, tt, tt, given1, (vWaiting (h₀ .waiting) ∷ [], (vFalling (h₀ .falling) ∷ [], (vCapability (getD (h₀ .capabilities) (h₀ .carrying .at) noCapability) ∷ [], (vstruct (ofList (cellsOf i32-field LL.i32-laws (h₀ .submission .action .parameters))) ∷ [], (vReceipt (getD (h₀ .slots) (h₀ .slot) noReceipt) ∷ [], tt)))))), tt)
 
     abbrev Got1 : ItemShown → SProp 𝓤
     Got1 r1 = ensured 𝓤 H A c-item_of.ended (c-item_of.clauses 𝓤 H A at-mem run) tt given1 tt r1
 
-    got1 : (r1 : ItemShown) → ent 𝓤 (Got1 r1) (fact 𝓤 (r1 ≡ itemFrom ((h₀ .waiting) .awaited) (h₀ .falling) (getD (h₀ .capabilities) (h₀ .carrying .at) noCapability) (h₀ .submission .action .parameters) (getD (h₀ .slots) (h₀ .slot) blank)))
-    got1 r1 = exE 𝓤 _ (λ ws. snd∗ 𝓤 (sem 𝓤 H A (lasts c-item_of.ended tt given1 ws)) (fact 𝓤 (r1 ≡ itemFrom ((h₀ .waiting) .awaited) (h₀ .falling) (getD (h₀ .capabilities) (h₀ .carrying .at) noCapability) (h₀ .submission .action .parameters) (getD (h₀ .slots) (h₀ .slot) blank))))
+    got1 : (r1 : ItemShown) → ent 𝓤 (Got1 r1) (fact 𝓤 (r1 ≡ itemFrom ((h₀ .waiting) .awaited) (h₀ .falling) (getD (h₀ .capabilities) (h₀ .carrying .at) noCapability) (h₀ .submission .action .parameters) (getD (h₀ .slots) (h₀ .slot) noReceipt)))
+    got1 r1 = exE 𝓤 _ (λ ws. snd∗ 𝓤 (sem 𝓤 H A (lasts c-item_of.ended tt given1 ws)) (fact 𝓤 (r1 ≡ itemFrom ((h₀ .waiting) .awaited) (h₀ .falling) (getD (h₀ .capabilities) (h₀ .carrying .at) noCapability) (h₀ .submission .action .parameters) (getD (h₀ .slots) (h₀ .slot) noReceipt))))
 
-    is-of1 : (r1 : ItemShown) (v1 : Val) → Is tItemShown.the-row r1 (v1 ∷ []) → r1 ≡ itemFrom ((h₀ .waiting) .awaited) (h₀ .falling) (getD (h₀ .capabilities) (h₀ .carrying .at) noCapability) (h₀ .submission .action .parameters) (getD (h₀ .slots) (h₀ .slot) blank) → Is tItemShown.the-row (itemFrom ((h₀ .waiting) .awaited) (h₀ .falling) (getD (h₀ .capabilities) (h₀ .carrying .at) noCapability) (h₀ .submission .action .parameters) (getD (h₀ .slots) (h₀ .slot) blank)) (vItemShown (itemFrom ((h₀ .waiting) .awaited) (h₀ .falling) (getD (h₀ .capabilities) (h₀ .carrying .at) noCapability) (h₀ .submission .action .parameters) (getD (h₀ .slots) (h₀ .slot) blank)) ∷ [])
+    is-of1 : (r1 : ItemShown) (v1 : Val) → Is tItemShown.the-row r1 (v1 ∷ []) → r1 ≡ itemFrom ((h₀ .waiting) .awaited) (h₀ .falling) (getD (h₀ .capabilities) (h₀ .carrying .at) noCapability) (h₀ .submission .action .parameters) (getD (h₀ .slots) (h₀ .slot) noReceipt) → Is tItemShown.the-row (itemFrom ((h₀ .waiting) .awaited) (h₀ .falling) (getD (h₀ .capabilities) (h₀ .carrying .at) noCapability) (h₀ .submission .action .parameters) (getD (h₀ .slots) (h₀ .slot) noReceipt)) (vItemShown (itemFrom ((h₀ .waiting) .awaited) (h₀ .falling) (getD (h₀ .capabilities) (h₀ .carrying .at) noCapability) (h₀ .submission .action .parameters) (getD (h₀ .slots) (h₀ .slot) noReceipt)) ∷ [])
     is-of1 r1 v1 is1 e1 = subst (λ (r1 : ItemShown). Is tItemShown.the-row r1 (vItemShown r1 ∷ [])) (e1) (subst (Is tItemShown.the-row r1) (LL.tells tItemShown.the-type tItemShown′.the-laws r1 (v1 ∷ []) is1) is1)
 
-    goes1 : Is tWaiting.the-row (h₀ .waiting) (vWaiting (h₀ .waiting) ∷ []) → Is tFalling.the-row (h₀ .falling) (vFalling (h₀ .falling) ∷ []) → Is tCapability.the-row (getD (h₀ .capabilities) (h₀ .carrying .at) noCapability) (vCapability (getD (h₀ .capabilities) (h₀ .carrying .at) noCapability) ∷ []) → Is (Array i32 2) (h₀ .submission .action .parameters) (vstruct (ofList (cellsOf i32-field LL.i32-laws (h₀ .submission .action .parameters))) ∷ []) → Is tReceipt.the-row (getD (h₀ .slots) (h₀ .slot) blank) (vReceipt (getD (h₀ .slots) (h₀ .slot) blank) ∷ []) → ent 𝓤 (emp 𝓤) (Call1 .pre to1)
-    goes1 p0 p1 p2 p3 p4 = qed W [] ∵ nothing ! $ owned ! tReceipt.the-row (Is tReceipt.the-row) (LL.makes tReceipt.the-type tReceipt′.the-plain 𝓤 H A) (getD (h₀ .slots) (h₀ .slot) blank) _ p4 $ fjoin ! $ owned ! (Array i32 2) (Is (Array i32 2)) (array-makes 𝓤 H A W i32 (sint-makes 𝓤 H A W w32) 2) (h₀ .submission .action .parameters) _ p3 $ fjoin ! $ owned ! tCapability.the-row (Is tCapability.the-row) (LL.makes tCapability.the-type tCapability′.the-plain 𝓤 H A) (getD (h₀ .capabilities) (h₀ .carrying .at) noCapability) _ p2 $ fjoin ! $ owned ! tFalling.the-row (Is tFalling.the-row) (LL.makes tFalling.the-type tFalling′.the-plain 𝓤 H A) (h₀ .falling) _ p1 $ fjoin ! $ owned ! tWaiting.the-row (Is tWaiting.the-row) (LL.makes tWaiting.the-type tWaiting′.the-plain 𝓤 H A) (h₀ .waiting) _ p0 $ fjoin ! $ nothing ! $ join ! $ frame ! $ done !
+    goes1 : Is tWaiting.the-row (h₀ .waiting) (vWaiting (h₀ .waiting) ∷ []) → Is tFalling.the-row (h₀ .falling) (vFalling (h₀ .falling) ∷ []) → Is tCapability.the-row (getD (h₀ .capabilities) (h₀ .carrying .at) noCapability) (vCapability (getD (h₀ .capabilities) (h₀ .carrying .at) noCapability) ∷ []) → Is (Array i32 2) (h₀ .submission .action .parameters) (vstruct (ofList (cellsOf i32-field LL.i32-laws (h₀ .submission .action .parameters))) ∷ []) → Is tReceipt.the-row (getD (h₀ .slots) (h₀ .slot) noReceipt) (vReceipt (getD (h₀ .slots) (h₀ .slot) noReceipt) ∷ []) → ent 𝓤 (emp 𝓤) (Call1 .pre to1)
+    goes1 p0 p1 p2 p3 p4 = qed W [] ∵ nothing ! $ owned ! tReceipt.the-row (Is tReceipt.the-row) (LL.makes tReceipt.the-type tReceipt′.the-plain 𝓤 H A) (getD (h₀ .slots) (h₀ .slot) noReceipt) _ p4 $ fjoin ! $ owned ! (Array i32 2) (Is (Array i32 2)) (array-makes 𝓤 H A W i32 (sint-makes 𝓤 H A W w32) 2) (h₀ .submission .action .parameters) _ p3 $ fjoin ! $ owned ! tCapability.the-row (Is tCapability.the-row) (LL.makes tCapability.the-type tCapability′.the-plain 𝓤 H A) (getD (h₀ .capabilities) (h₀ .carrying .at) noCapability) _ p2 $ fjoin ! $ owned ! tFalling.the-row (Is tFalling.the-row) (LL.makes tFalling.the-type tFalling′.the-plain 𝓤 H A) (h₀ .falling) _ p1 $ fjoin ! $ owned ! tWaiting.the-row (Is tWaiting.the-row) (LL.makes tWaiting.the-type tWaiting′.the-plain 𝓤 H A) (h₀ .waiting) _ p0 $ fjoin ! $ nothing ! $ join ! $ frame ! $ done !
 
   module _ (𝓣 : Tables 𝓤 H) (known-item-of : Triple 𝓤 (𝓣 .C #decide-read·item-of) (tripleOf 𝓤 H A c-item_of.signature (c-item_of.spec 𝓤 H A at-mem run))) where
     abbrev C : Calls 𝓤 H
@@ -207,18 +206,18 @@ module _ {M : Type 1} (𝓤 : URA M) (H : Heap 𝓤) (A : Atoms 𝓤) (W : Given
           assigns ! (addr ! (from ! (hop ! (look ! 33 refl) (fld ! {τ = (tyArray mirReceipt 65)} {d = 3856} refl (stop !))))) (from ! (stop !)) (init ! 9 refl (tt, tt)) $
           assigns ! (bin ! (load ! (from ! (stop !)) (look ! 9 refl)) (load ! (from ! (stop !)) (look ! 17 refl)) tt) (from ! (stop !)) (init ! 7 refl (tt, tt)) $
           rewrite ! 7 (λ (n : ℕ). ‵ (fat fullShare tyPtr l₁₄ 0 (vptr blk n))) (sym (place-is 128 _ (h₀ .slot))) refl $
-          assigns ! (of-opd ! (load ! (from ! (hop ! (look ! 7 refl) (stop !))) (look-in ! 0 (item-at ! tReceipt.the-field tReceipt′.the-field-laws 65 (h₀ .slots) (LL.owed tRuntime.the-type tRuntime′.the-laws h₀ (vRuntime h₀ ∷ []) was1 .1 .1 .1 .1 .1 .1 .1 .1 .1 .1 .1 .1 .1 .1 .1 .1 .1 .1 .1 .1 .1 .0) (h₀ .slot) blank (good .kept .placed .slot) (sub ! 21 {τ = (tyArray mirReceipt 65)} {d = 3856} refl (whole-raw ! mirRuntime)))))) (from ! (stop !)) (init ! 5 refl (LL.lawful tReceipt.the-type tReceipt′.the-laws 𝓤 H A W .typed (getD (h₀ .slots) (h₀ .slot) blank) _ (table-at tReceipt.the-field tReceipt′.the-field-laws 65 (h₀ .slots) (LL.owed tRuntime.the-type tRuntime′.the-laws h₀ (vRuntime h₀ ∷ []) was1 .1 .1 .1 .1 .1 .1 .1 .1 .1 .1 .1 .1 .1 .1 .1 .1 .1 .1 .1 .1 .1 .0) (h₀ .slot) blank (good .kept .placed .slot)) .0)) $
-          assigns ! (of-opd ! (load ! (from ! (stop !)) (look ! 5 refl))) (from ! (stop !)) (init ! 19 refl (LL.lawful tReceipt.the-type tReceipt′.the-laws 𝓤 H A W .typed (getD (h₀ .slots) (h₀ .slot) blank) _ (table-at tReceipt.the-field tReceipt′.the-field-laws 65 (h₀ .slots) (LL.owed tRuntime.the-type tRuntime′.the-laws h₀ (vRuntime h₀ ∷ []) was1 .1 .1 .1 .1 .1 .1 .1 .1 .1 .1 .1 .1 .1 .1 .1 .1 .1 .1 .1 .1 .1 .0) (h₀ .slot) blank (good .kept .placed .slot)) .0)) $
-          use0 W (raw (Call1 .pre (to1))) (goes1 (LL.owed tRuntime.the-type tRuntime′.the-laws h₀ (vRuntime h₀ ∷ []) was1 .0) (LL.owed tRuntime.the-type tRuntime′.the-laws h₀ (vRuntime h₀ ∷ []) was1 .1 .1 .1 .1 .1 .1 .0) (table-at tCapability.the-field tCapability′.the-field-laws 17 (h₀ .capabilities) (LL.owed tRuntime.the-type tRuntime′.the-laws h₀ (vRuntime h₀ ∷ []) was1 .1 .1 .1 .1 .1 .1 .1 .1 .1 .1 .1 .1 .1 .1 .1 .0) (h₀ .carrying .at) noCapability (good .kept .placed .capability)) (array-are i32 i32-field (i32-field .into) (λ x us s. s) 2 (h₀ .submission .action .parameters) _ (LL.owed tAction.the-type tAction′.the-laws (h₀ .submission .action) (vAction (h₀ .submission .action) ∷ []) (LL.owed tSubmission.the-type tSubmission′.the-laws (h₀ .submission) (vSubmission (h₀ .submission) ∷ []) (LL.owed tRuntime.the-type tRuntime′.the-laws h₀ (vRuntime h₀ ∷ []) was1 .1 .1 .1 .1 .1 .1 .1 .1 .1 .1 .1 .1 .1 .1 .1 .1 .1 .0) .0) .1 .1 .1 .1 .1 .1 .1 .1 .1 .1 .0)) (table-at tReceipt.the-field tReceipt′.the-field-laws 65 (h₀ .slots) (LL.owed tRuntime.the-type tRuntime′.the-laws h₀ (vRuntime h₀ ∷ []) was1 .1 .1 .1 .1 .1 .1 .1 .1 .1 .1 .1 .1 .1 .1 .1 .1 .1 .1 .1 .1 .1 .0) (h₀ .slot) blank (good .kept .placed .slot))) $
+          assigns ! (of-opd ! (load ! (from ! (hop ! (look ! 7 refl) (stop !))) (look-in ! 0 (item-at ! tReceipt.the-field tReceipt′.the-field-laws 65 (h₀ .slots) (LL.owed tRuntime.the-type tRuntime′.the-laws h₀ (vRuntime h₀ ∷ []) was1 .1 .1 .1 .1 .1 .1 .1 .1 .1 .1 .1 .1 .1 .1 .1 .1 .1 .1 .1 .1 .1 .0) (h₀ .slot) noReceipt (good .kept .placed .slot) (sub ! 21 {τ = (tyArray mirReceipt 65)} {d = 3856} refl (whole-raw ! mirRuntime)))))) (from ! (stop !)) (init ! 5 refl (LL.lawful tReceipt.the-type tReceipt′.the-laws 𝓤 H A W .typed (getD (h₀ .slots) (h₀ .slot) noReceipt) _ (table-at tReceipt.the-field tReceipt′.the-field-laws 65 (h₀ .slots) (LL.owed tRuntime.the-type tRuntime′.the-laws h₀ (vRuntime h₀ ∷ []) was1 .1 .1 .1 .1 .1 .1 .1 .1 .1 .1 .1 .1 .1 .1 .1 .1 .1 .1 .1 .1 .1 .0) (h₀ .slot) noReceipt (good .kept .placed .slot)) .0)) $
+          assigns ! (of-opd ! (load ! (from ! (stop !)) (look ! 5 refl))) (from ! (stop !)) (init ! 19 refl (LL.lawful tReceipt.the-type tReceipt′.the-laws 𝓤 H A W .typed (getD (h₀ .slots) (h₀ .slot) noReceipt) _ (table-at tReceipt.the-field tReceipt′.the-field-laws 65 (h₀ .slots) (LL.owed tRuntime.the-type tRuntime′.the-laws h₀ (vRuntime h₀ ∷ []) was1 .1 .1 .1 .1 .1 .1 .1 .1 .1 .1 .1 .1 .1 .1 .1 .1 .1 .1 .1 .1 .1 .0) (h₀ .slot) noReceipt (good .kept .placed .slot)) .0)) $
+          use0 W (raw (Call1 .pre (to1))) (goes1 (LL.owed tRuntime.the-type tRuntime′.the-laws h₀ (vRuntime h₀ ∷ []) was1 .0) (LL.owed tRuntime.the-type tRuntime′.the-laws h₀ (vRuntime h₀ ∷ []) was1 .1 .1 .1 .1 .1 .1 .0) (table-at tCapability.the-field tCapability′.the-field-laws 17 (h₀ .capabilities) (LL.owed tRuntime.the-type tRuntime′.the-laws h₀ (vRuntime h₀ ∷ []) was1 .1 .1 .1 .1 .1 .1 .1 .1 .1 .1 .1 .1 .1 .1 .1 .0) (h₀ .carrying .at) noCapability (good .kept .placed .capability)) (array-are i32 i32-field (i32-field .into) (λ x us s. s) 2 (h₀ .submission .action .parameters) _ (LL.owed tAction.the-type tAction′.the-laws (h₀ .submission .action) (vAction (h₀ .submission .action) ∷ []) (LL.owed tSubmission.the-type tSubmission′.the-laws (h₀ .submission) (vSubmission (h₀ .submission) ∷ []) (LL.owed tRuntime.the-type tRuntime′.the-laws h₀ (vRuntime h₀ ∷ []) was1 .1 .1 .1 .1 .1 .1 .1 .1 .1 .1 .1 .1 .1 .1 .1 .1 .1 .0) .0) .1 .1 .1 .1 .1 .1 .1 .1 .1 .1 .0)) (table-at tReceipt.the-field tReceipt′.the-field-laws 65 (h₀ .slots) (LL.owed tRuntime.the-type tRuntime′.the-laws h₀ (vRuntime h₀ ∷ []) was1 .1 .1 .1 .1 .1 .1 .1 .1 .1 .1 .1 .1 .1 .1 .1 .1 .1 .1 .1 .1 .1 .0) (h₀ .slot) noReceipt (good .kept .placed .slot))) $
           calls-at ! fm Call1 known-item-of (to1) (and-then ! (load ! (from ! (stop !)) (look ! 32 refl)) (and-then ! (load ! (from ! (stop !)) (look ! 30 refl)) (and-then ! (load ! (from ! (stop !)) (look ! 24 refl)) (and-then ! (load ! (from ! (stop !)) (look ! 22 refl)) (and-then ! (load ! (from ! (stop !)) (look ! 20 refl)) (no-more !)))))) (λ v1.
           use1 W (later (some (λ (r1 : ItemShown). (‵ ftrue ⊛ ‵ (tItemShown.the-row .own r1 (v1 ∷ []))) ⊛ raw (Got1 r1)))) (id⊢ 𝓤 _) $ await ! tt $ pick ! (λ r1.
-          split ! $ move ! (1 ∷ []) $ use1 W (raw (fact 𝓤 (r1 ≡ itemFrom ((h₀ .waiting) .awaited) (h₀ .falling) (getD (h₀ .capabilities) (h₀ .carrying .at) noCapability) (h₀ .submission .action .parameters) (getD (h₀ .slots) (h₀ .slot) blank)))) (got1 r1) $ heard ! (r1 ≡ itemFrom ((h₀ .waiting) .awaited) (h₀ .falling) (getD (h₀ .capabilities) (h₀ .carrying .at) noCapability) (h₀ .submission .action .parameters) (getD (h₀ .slots) (h₀ .slot) blank)) (λ e1. split ! $ drop ! $ peeks ! tItemShown.the-row (Is tItemShown.the-row) (shows 𝓤 H A tItemShown.the-row) r1 (v1 ∷ []) (λ is1. drop ! $
+          split ! $ move ! (1 ∷ []) $ use1 W (raw (fact 𝓤 (r1 ≡ itemFrom ((h₀ .waiting) .awaited) (h₀ .falling) (getD (h₀ .capabilities) (h₀ .carrying .at) noCapability) (h₀ .submission .action .parameters) (getD (h₀ .slots) (h₀ .slot) noReceipt)))) (got1 r1) $ heard ! (r1 ≡ itemFrom ((h₀ .waiting) .awaited) (h₀ .falling) (getD (h₀ .capabilities) (h₀ .carrying .at) noCapability) (h₀ .submission .action .parameters) (getD (h₀ .slots) (h₀ .slot) noReceipt)) (λ e1. split ! $ drop ! $ peeks ! tItemShown.the-row (Is tItemShown.the-row) (shows 𝓤 H A tItemShown.the-row) r1 (v1 ∷ []) (λ is1. drop ! $
           land ! (from ! (stop !)) (init ! 35 refl (LL.lawful tItemShown.the-type tItemShown′.the-laws 𝓤 H A W .typed r1 _ is1 .0)) $
           rewrite ! 35 (λ (u : Val). ‵ (fat fullShare mirItemShown l₀ 0 u)) (ap only (LL.tells tItemShown.the-type tItemShown′.the-laws r1 (v1 ∷ []) is1) ∙ ap (λ (u : ItemShown). vItemShown u) (e1)) refl $
           shuts ! tt tRuntime.the-row q1 h₀ (vRuntime h₀ ∷ []) blk off $
           returns ! (look ! 33 refl) $ forget ! 3 refl $ forget ! 5 refl $ forget ! 7 refl $ forget ! 9 refl $ forget ! 11 refl $ forget ! 13 refl $ forget ! 15 refl $ forget ! 17 refl $ forget ! 19 refl $ forget ! 21 refl $ forget ! 23 refl $ forget ! 25 refl $ forget ! 27 refl $ forget ! 29 refl $ forget ! 31 refl $ forget ! 33 refl $
           move ! (33 ∷ 34 ∷ []) $ free1 ! $ move ! (31 ∷ 32 ∷ []) $ free1 ! $ move ! (29 ∷ 30 ∷ []) $ free1 ! $ move ! (27 ∷ 28 ∷ []) $ free1 ! $ move ! (25 ∷ 26 ∷ []) $ free1 ! $ move ! (23 ∷ 24 ∷ []) $ free1 ! $ move ! (21 ∷ 22 ∷ []) $ free1 ! $ move ! (19 ∷ 20 ∷ []) $ free1 ! $ move ! (17 ∷ 18 ∷ []) $ free1 ! $ move ! (15 ∷ 16 ∷ []) $ free1 ! $ move ! (13 ∷ 14 ∷ []) $ free1 ! $ move ! (11 ∷ 12 ∷ []) $ free1 ! $ move ! (9 ∷ 10 ∷ []) $ free1 ! $ move ! (7 ∷ 8 ∷ []) $ free1 ! $ move ! (5 ∷ 6 ∷ []) $ free1 ! $ move ! (3 ∷ 4 ∷ []) $ free1 ! $ free0 ! $
-          by ! (exits (itemFrom ((h₀ .waiting) .awaited) (h₀ .falling) (getD (h₀ .capabilities) (h₀ .carrying .at) noCapability) (h₀ .submission .action .parameters) (getD (h₀ .slots) (h₀ .slot) blank)) (item-shown h₀ good) (is-of1 r1 v1 is1 e1))))))))
+          by ! (exits (itemFrom ((h₀ .waiting) .awaited) (h₀ .falling) (getD (h₀ .capabilities) (h₀ .carrying .at) noCapability) (h₀ .submission .action .parameters) (getD (h₀ .slots) (h₀ .slot) noReceipt)) (item-shown h₀ good) (is-of1 r1 v1 is1 e1))))))))
 
     walk-shape : ent 𝓤 (⋆ 𝓤 H A (‵ (fres γ (tRuntime.the-row .coded .code h₀)) ∷ ‵ (fshr-bor κ (λ s. partAt tRuntime.the-row s h₀ blk off)) ∷ ‵ (flft κ share) ∷ [])) (WpFn 𝓤 H C Λ fn (vptr blk off ∷ []) Post)
     walk-shape =

@@ -30,7 +30,7 @@ returns c l k =
       active = ap (λ (x : ActiveSlot). replicate 9 x) (blanks .before .blank2 .ensures);
       capabilities = refl;
       replay = ap (λ (x : ReplaySlot). replicate 33 x) (blanks .blank3 .ensures);
-      slots = length-replicate 65 (numbered .before .blank-receipt .result);
+      slots = length-replicate 65 (numbered .before .blank4 .result);
     })
     (fixed .before .refused-start .result) (tried .first-trial .ensures) l k (fixed .before .refused-start .ensures l (a .time) (a .flags) k)
 

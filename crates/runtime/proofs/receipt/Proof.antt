@@ -109,7 +109,7 @@ use Rattle.receipts.specs.Indexes.{Numbered as Numbered′}
 use Rattle.decide_read.specs.Shown.{NotedAs, slotBy, receiptAt}
 use Rattle.decide_start.specs.Starts.{isStarted}
 use Rattle.runtime.specs.Stages.{RuntimeSound, ReceiptReads}
-use Rattle.receipts.specs.Blank.{blank}
+use Rattle.model.specs.Records.{noReceipt}
 use Rattle.runtime.proofs.Showing.{noted-rejected, noted-others, noted-low, receipt-reads}
 
 abbrev Arg : Type 0
@@ -201,22 +201,22 @@ module _ {M : Type 1} (𝓤 : URA M) (H : Heap 𝓤) (A : Atoms 𝓤) (W : Given
 
   module _ (v1 : Val) (r1 : Noted) (v2 : Val) (r2 : ℕ) where
     abbrev given3 : (Starting × (ℕ × (Receipt × Unit {0})))
-    given3 = (h₀ .starting, (slotBy r1 (getD (h₀ .places .rejected) (r1 .rejected) 0) (getD (h₀ .places .others) (r1 .others) 0), (getD (h₀ .slots) (slotBy r1 (getD (h₀ .places .rejected) (r1 .rejected) 0) (getD (h₀ .places .others) (r1 .others) 0)) blank, tt)))
+    given3 = (h₀ .starting, (slotBy r1 (getD (h₀ .places .rejected) (r1 .rejected) 0) (getD (h₀ .places .others) (r1 .others) 0), (getD (h₀ .slots) (slotBy r1 (getD (h₀ .places .rejected) (r1 .rejected) 0) (getD (h₀ .places .others) (r1 .others) 0)) noReceipt, tt)))
 
     abbrev to3 : tripleOf 𝓤 H A c-receipt_shown.signature (c-receipt_shown.spec 𝓤 H A at-mem run) .Ghost
-    to3 = ((tt, tt, tt, given3, (vStarting (h₀ .starting) ∷ [], (vint w64 (slotBy r1 (getD (h₀ .places .rejected) (r1 .rejected) 0) (getD (h₀ .places .others) (r1 .others) 0)) ∷ [], (vReceipt (getD (h₀ .slots) (slotBy r1 (getD (h₀ .places .rejected) (r1 .rejected) 0) (getD (h₀ .places .others) (r1 .others) 0)) blank) ∷ [], tt)))), tt)
+    to3 = ((tt, tt, tt, given3, (vStarting (h₀ .starting) ∷ [], (vint w64 (slotBy r1 (getD (h₀ .places .rejected) (r1 .rejected) 0) (getD (h₀ .places .others) (r1 .others) 0)) ∷ [], (vReceipt (getD (h₀ .slots) (slotBy r1 (getD (h₀ .places .rejected) (r1 .rejected) 0) (getD (h₀ .places .others) (r1 .others) 0)) noReceipt) ∷ [], tt)))), tt)
 
     abbrev Got3 : ReceiptShown → SProp 𝓤
     Got3 r3 = ensured 𝓤 H A c-receipt_shown.ended (c-receipt_shown.clauses 𝓤 H A at-mem run) tt given3 tt r3
 
-    got3 : (r3 : ReceiptShown) → ent 𝓤 (Got3 r3) (fact 𝓤 (r3 ≡ receiptAt (isStarted ((h₀ .starting) .stage)) (slotBy r1 (getD (h₀ .places .rejected) (r1 .rejected) 0) (getD (h₀ .places .others) (r1 .others) 0)) (getD (h₀ .slots) (slotBy r1 (getD (h₀ .places .rejected) (r1 .rejected) 0) (getD (h₀ .places .others) (r1 .others) 0)) blank)))
-    got3 r3 = exE 𝓤 _ (λ ws. snd∗ 𝓤 (sem 𝓤 H A (lasts c-receipt_shown.ended tt given3 ws)) (fact 𝓤 (r3 ≡ receiptAt (isStarted ((h₀ .starting) .stage)) (slotBy r1 (getD (h₀ .places .rejected) (r1 .rejected) 0) (getD (h₀ .places .others) (r1 .others) 0)) (getD (h₀ .slots) (slotBy r1 (getD (h₀ .places .rejected) (r1 .rejected) 0) (getD (h₀ .places .others) (r1 .others) 0)) blank))))
+    got3 : (r3 : ReceiptShown) → ent 𝓤 (Got3 r3) (fact 𝓤 (r3 ≡ receiptAt (isStarted ((h₀ .starting) .stage)) (slotBy r1 (getD (h₀ .places .rejected) (r1 .rejected) 0) (getD (h₀ .places .others) (r1 .others) 0)) (getD (h₀ .slots) (slotBy r1 (getD (h₀ .places .rejected) (r1 .rejected) 0) (getD (h₀ .places .others) (r1 .others) 0)) noReceipt)))
+    got3 r3 = exE 𝓤 _ (λ ws. snd∗ 𝓤 (sem 𝓤 H A (lasts c-receipt_shown.ended tt given3 ws)) (fact 𝓤 (r3 ≡ receiptAt (isStarted ((h₀ .starting) .stage)) (slotBy r1 (getD (h₀ .places .rejected) (r1 .rejected) 0) (getD (h₀ .places .others) (r1 .others) 0)) (getD (h₀ .slots) (slotBy r1 (getD (h₀ .places .rejected) (r1 .rejected) 0) (getD (h₀ .places .others) (r1 .others) 0)) noReceipt))))
 
-    is-of3 : (r3 : ReceiptShown) (v3 : Val) → Is tReceiptShown.the-row r3 (v3 ∷ []) → r3 ≡ receiptAt (isStarted ((h₀ .starting) .stage)) (slotBy r1 (getD (h₀ .places .rejected) (r1 .rejected) 0) (getD (h₀ .places .others) (r1 .others) 0)) (getD (h₀ .slots) (slotBy r1 (getD (h₀ .places .rejected) (r1 .rejected) 0) (getD (h₀ .places .others) (r1 .others) 0)) blank) → Is tReceiptShown.the-row (receiptAt (isStarted ((h₀ .starting) .stage)) (slotBy r1 (getD (h₀ .places .rejected) (r1 .rejected) 0) (getD (h₀ .places .others) (r1 .others) 0)) (getD (h₀ .slots) (slotBy r1 (getD (h₀ .places .rejected) (r1 .rejected) 0) (getD (h₀ .places .others) (r1 .others) 0)) blank)) (vReceiptShown (receiptAt (isStarted ((h₀ .starting) .stage)) (slotBy r1 (getD (h₀ .places .rejected) (r1 .rejected) 0) (getD (h₀ .places .others) (r1 .others) 0)) (getD (h₀ .slots) (slotBy r1 (getD (h₀ .places .rejected) (r1 .rejected) 0) (getD (h₀ .places .others) (r1 .others) 0)) blank)) ∷ [])
+    is-of3 : (r3 : ReceiptShown) (v3 : Val) → Is tReceiptShown.the-row r3 (v3 ∷ []) → r3 ≡ receiptAt (isStarted ((h₀ .starting) .stage)) (slotBy r1 (getD (h₀ .places .rejected) (r1 .rejected) 0) (getD (h₀ .places .others) (r1 .others) 0)) (getD (h₀ .slots) (slotBy r1 (getD (h₀ .places .rejected) (r1 .rejected) 0) (getD (h₀ .places .others) (r1 .others) 0)) noReceipt) → Is tReceiptShown.the-row (receiptAt (isStarted ((h₀ .starting) .stage)) (slotBy r1 (getD (h₀ .places .rejected) (r1 .rejected) 0) (getD (h₀ .places .others) (r1 .others) 0)) (getD (h₀ .slots) (slotBy r1 (getD (h₀ .places .rejected) (r1 .rejected) 0) (getD (h₀ .places .others) (r1 .others) 0)) noReceipt)) (vReceiptShown (receiptAt (isStarted ((h₀ .starting) .stage)) (slotBy r1 (getD (h₀ .places .rejected) (r1 .rejected) 0) (getD (h₀ .places .others) (r1 .others) 0)) (getD (h₀ .slots) (slotBy r1 (getD (h₀ .places .rejected) (r1 .rejected) 0) (getD (h₀ .places .others) (r1 .others) 0)) noReceipt)) ∷ [])
     is-of3 r3 v3 is3 e3 = subst (λ (r3 : ReceiptShown). Is tReceiptShown.the-row r3 (vReceiptShown r3 ∷ [])) (e3) (subst (Is tReceiptShown.the-row r3) (LL.tells tReceiptShown.the-type tReceiptShown′.the-laws r3 (v3 ∷ []) is3) is3)
 
-    goes3 : Is tStarting.the-row (h₀ .starting) (vStarting (h₀ .starting) ∷ []) → Is usize (slotBy r1 (getD (h₀ .places .rejected) (r1 .rejected) 0) (getD (h₀ .places .others) (r1 .others) 0)) (vint w64 (slotBy r1 (getD (h₀ .places .rejected) (r1 .rejected) 0) (getD (h₀ .places .others) (r1 .others) 0)) ∷ []) → Is tReceipt.the-row (getD (h₀ .slots) (slotBy r1 (getD (h₀ .places .rejected) (r1 .rejected) 0) (getD (h₀ .places .others) (r1 .others) 0)) blank) (vReceipt (getD (h₀ .slots) (slotBy r1 (getD (h₀ .places .rejected) (r1 .rejected) 0) (getD (h₀ .places .others) (r1 .others) 0)) blank) ∷ []) → ent 𝓤 (emp 𝓤) (Call3 .pre to3)
-    goes3 p0 p1 p2 = qed W [] ∵ nothing ! $ owned ! tReceipt.the-row (Is tReceipt.the-row) (LL.makes tReceipt.the-type tReceipt′.the-plain 𝓤 H A) (getD (h₀ .slots) (slotBy r1 (getD (h₀ .places .rejected) (r1 .rejected) 0) (getD (h₀ .places .others) (r1 .others) 0)) blank) _ p2 $ fjoin ! $ owned ! usize (Is usize) (uint-makes 𝓤 H A W w64) (slotBy r1 (getD (h₀ .places .rejected) (r1 .rejected) 0) (getD (h₀ .places .others) (r1 .others) 0)) _ p1 $ fjoin ! $ owned ! tStarting.the-row (Is tStarting.the-row) (LL.makes tStarting.the-type tStarting′.the-plain 𝓤 H A) (h₀ .starting) _ p0 $ fjoin ! $ nothing ! $ join ! $ frame ! $ done !
+    goes3 : Is tStarting.the-row (h₀ .starting) (vStarting (h₀ .starting) ∷ []) → Is usize (slotBy r1 (getD (h₀ .places .rejected) (r1 .rejected) 0) (getD (h₀ .places .others) (r1 .others) 0)) (vint w64 (slotBy r1 (getD (h₀ .places .rejected) (r1 .rejected) 0) (getD (h₀ .places .others) (r1 .others) 0)) ∷ []) → Is tReceipt.the-row (getD (h₀ .slots) (slotBy r1 (getD (h₀ .places .rejected) (r1 .rejected) 0) (getD (h₀ .places .others) (r1 .others) 0)) noReceipt) (vReceipt (getD (h₀ .slots) (slotBy r1 (getD (h₀ .places .rejected) (r1 .rejected) 0) (getD (h₀ .places .others) (r1 .others) 0)) noReceipt) ∷ []) → ent 𝓤 (emp 𝓤) (Call3 .pre to3)
+    goes3 p0 p1 p2 = qed W [] ∵ nothing ! $ owned ! tReceipt.the-row (Is tReceipt.the-row) (LL.makes tReceipt.the-type tReceipt′.the-plain 𝓤 H A) (getD (h₀ .slots) (slotBy r1 (getD (h₀ .places .rejected) (r1 .rejected) 0) (getD (h₀ .places .others) (r1 .others) 0)) noReceipt) _ p2 $ fjoin ! $ owned ! usize (Is usize) (uint-makes 𝓤 H A W w64) (slotBy r1 (getD (h₀ .places .rejected) (r1 .rejected) 0) (getD (h₀ .places .others) (r1 .others) 0)) _ p1 $ fjoin ! $ owned ! tStarting.the-row (Is tStarting.the-row) (LL.makes tStarting.the-type tStarting′.the-plain 𝓤 H A) (h₀ .starting) _ p0 $ fjoin ! $ nothing ! $ join ! $ frame ! $ done !
 
   module _ (𝓣 : Tables 𝓤 H) (known-noted-at : Triple 𝓤 (𝓣 .C #decide-read·noted-at) (tripleOf 𝓤 H A c-noted_at.signature (c-noted_at.spec 𝓤 H A at-mem run))) (known-slot-of : Triple 𝓤 (𝓣 .C #decide-read·slot-of) (tripleOf 𝓤 H A c-slot_of.signature (c-slot_of.spec 𝓤 H A at-mem run))) (known-receipt-shown : Triple 𝓤 (𝓣 .C #decide-read·receipt-shown) (tripleOf 𝓤 H A c-receipt_shown.signature (c-receipt_shown.spec 𝓤 H A at-mem run))) where
     abbrev C : Calls 𝓤 H
@@ -264,18 +264,18 @@ module _ {M : Type 1} (𝓤 : URA M) (H : Heap 𝓤) (A : Atoms 𝓤) (W : Given
           assigns ! (addr ! (from ! (hop ! (look ! 39 refl) (fld ! {τ = (tyArray mirReceipt 65)} {d = 3856} refl (stop !))))) (from ! (stop !)) (init ! 9 refl (tt, tt)) $
           assigns ! (bin ! (load ! (from ! (stop !)) (look ! 9 refl)) (load ! (from ! (stop !)) (look ! 11 refl)) tt) (from ! (stop !)) (init ! 7 refl (tt, tt)) $
           rewrite ! 7 (λ (n : ℕ). ‵ (fat fullShare tyPtr l₁₇ 0 (vptr blk n))) (sym (place-is 128 _ (slotBy r1 (getD (h₀ .places .rejected) (r1 .rejected) 0) (getD (h₀ .places .others) (r1 .others) 0)))) refl $
-          assigns ! (of-opd ! (load ! (from ! (hop ! (look ! 7 refl) (stop !))) (look-in ! 0 (item-at ! tReceipt.the-field tReceipt′.the-field-laws 65 (h₀ .slots) (LL.owed tRuntime.the-type tRuntime′.the-laws h₀ (vRuntime h₀ ∷ []) was1 .1 .1 .1 .1 .1 .1 .1 .1 .1 .1 .1 .1 .1 .1 .1 .1 .1 .1 .1 .1 .1 .0) (slotBy r1 (getD (h₀ .places .rejected) (r1 .rejected) 0) (getD (h₀ .places .others) (r1 .others) 0)) blank (noted-low h₀ (good .kept) index r1 e1) (sub ! 21 {τ = (tyArray mirReceipt 65)} {d = 3856} refl (whole-raw ! mirRuntime)))))) (from ! (stop !)) (init ! 5 refl (LL.lawful tReceipt.the-type tReceipt′.the-laws 𝓤 H A W .typed (getD (h₀ .slots) (slotBy r1 (getD (h₀ .places .rejected) (r1 .rejected) 0) (getD (h₀ .places .others) (r1 .others) 0)) blank) _ (table-at tReceipt.the-field tReceipt′.the-field-laws 65 (h₀ .slots) (LL.owed tRuntime.the-type tRuntime′.the-laws h₀ (vRuntime h₀ ∷ []) was1 .1 .1 .1 .1 .1 .1 .1 .1 .1 .1 .1 .1 .1 .1 .1 .1 .1 .1 .1 .1 .1 .0) (slotBy r1 (getD (h₀ .places .rejected) (r1 .rejected) 0) (getD (h₀ .places .others) (r1 .others) 0)) blank (noted-low h₀ (good .kept) index r1 e1)) .0)) $
-          assigns ! (of-opd ! (load ! (from ! (stop !)) (look ! 5 refl))) (from ! (stop !)) (init ! 23 refl (LL.lawful tReceipt.the-type tReceipt′.the-laws 𝓤 H A W .typed (getD (h₀ .slots) (slotBy r1 (getD (h₀ .places .rejected) (r1 .rejected) 0) (getD (h₀ .places .others) (r1 .others) 0)) blank) _ (table-at tReceipt.the-field tReceipt′.the-field-laws 65 (h₀ .slots) (LL.owed tRuntime.the-type tRuntime′.the-laws h₀ (vRuntime h₀ ∷ []) was1 .1 .1 .1 .1 .1 .1 .1 .1 .1 .1 .1 .1 .1 .1 .1 .1 .1 .1 .1 .1 .1 .0) (slotBy r1 (getD (h₀ .places .rejected) (r1 .rejected) 0) (getD (h₀ .places .others) (r1 .others) 0)) blank (noted-low h₀ (good .kept) index r1 e1)) .0)) $
-          use0 W (raw (Call3 .pre (to3 v1 r1 v2 r2))) (goes3 v1 r1 v2 r2 (LL.owed tRuntime.the-type tRuntime′.the-laws h₀ (vRuntime h₀ ∷ []) was1 .1 .1 .1 .1 .1 .1 .1 .1 .1 .1 .0) (is-of2 v1 r1 r2 v2 is2 e2) (table-at tReceipt.the-field tReceipt′.the-field-laws 65 (h₀ .slots) (LL.owed tRuntime.the-type tRuntime′.the-laws h₀ (vRuntime h₀ ∷ []) was1 .1 .1 .1 .1 .1 .1 .1 .1 .1 .1 .1 .1 .1 .1 .1 .1 .1 .1 .1 .1 .1 .0) (slotBy r1 (getD (h₀ .places .rejected) (r1 .rejected) 0) (getD (h₀ .places .others) (r1 .others) 0)) blank (noted-low h₀ (good .kept) index r1 e1))) $
+          assigns ! (of-opd ! (load ! (from ! (hop ! (look ! 7 refl) (stop !))) (look-in ! 0 (item-at ! tReceipt.the-field tReceipt′.the-field-laws 65 (h₀ .slots) (LL.owed tRuntime.the-type tRuntime′.the-laws h₀ (vRuntime h₀ ∷ []) was1 .1 .1 .1 .1 .1 .1 .1 .1 .1 .1 .1 .1 .1 .1 .1 .1 .1 .1 .1 .1 .1 .0) (slotBy r1 (getD (h₀ .places .rejected) (r1 .rejected) 0) (getD (h₀ .places .others) (r1 .others) 0)) noReceipt (noted-low h₀ (good .kept) index r1 e1) (sub ! 21 {τ = (tyArray mirReceipt 65)} {d = 3856} refl (whole-raw ! mirRuntime)))))) (from ! (stop !)) (init ! 5 refl (LL.lawful tReceipt.the-type tReceipt′.the-laws 𝓤 H A W .typed (getD (h₀ .slots) (slotBy r1 (getD (h₀ .places .rejected) (r1 .rejected) 0) (getD (h₀ .places .others) (r1 .others) 0)) noReceipt) _ (table-at tReceipt.the-field tReceipt′.the-field-laws 65 (h₀ .slots) (LL.owed tRuntime.the-type tRuntime′.the-laws h₀ (vRuntime h₀ ∷ []) was1 .1 .1 .1 .1 .1 .1 .1 .1 .1 .1 .1 .1 .1 .1 .1 .1 .1 .1 .1 .1 .1 .0) (slotBy r1 (getD (h₀ .places .rejected) (r1 .rejected) 0) (getD (h₀ .places .others) (r1 .others) 0)) noReceipt (noted-low h₀ (good .kept) index r1 e1)) .0)) $
+          assigns ! (of-opd ! (load ! (from ! (stop !)) (look ! 5 refl))) (from ! (stop !)) (init ! 23 refl (LL.lawful tReceipt.the-type tReceipt′.the-laws 𝓤 H A W .typed (getD (h₀ .slots) (slotBy r1 (getD (h₀ .places .rejected) (r1 .rejected) 0) (getD (h₀ .places .others) (r1 .others) 0)) noReceipt) _ (table-at tReceipt.the-field tReceipt′.the-field-laws 65 (h₀ .slots) (LL.owed tRuntime.the-type tRuntime′.the-laws h₀ (vRuntime h₀ ∷ []) was1 .1 .1 .1 .1 .1 .1 .1 .1 .1 .1 .1 .1 .1 .1 .1 .1 .1 .1 .1 .1 .1 .0) (slotBy r1 (getD (h₀ .places .rejected) (r1 .rejected) 0) (getD (h₀ .places .others) (r1 .others) 0)) noReceipt (noted-low h₀ (good .kept) index r1 e1)) .0)) $
+          use0 W (raw (Call3 .pre (to3 v1 r1 v2 r2))) (goes3 v1 r1 v2 r2 (LL.owed tRuntime.the-type tRuntime′.the-laws h₀ (vRuntime h₀ ∷ []) was1 .1 .1 .1 .1 .1 .1 .1 .1 .1 .1 .0) (is-of2 v1 r1 r2 v2 is2 e2) (table-at tReceipt.the-field tReceipt′.the-field-laws 65 (h₀ .slots) (LL.owed tRuntime.the-type tRuntime′.the-laws h₀ (vRuntime h₀ ∷ []) was1 .1 .1 .1 .1 .1 .1 .1 .1 .1 .1 .1 .1 .1 .1 .1 .1 .1 .1 .1 .1 .1 .0) (slotBy r1 (getD (h₀ .places .rejected) (r1 .rejected) 0) (getD (h₀ .places .others) (r1 .others) 0)) noReceipt (noted-low h₀ (good .kept) index r1 e1))) $
           calls-at ! fm Call3 known-receipt-shown (to3 v1 r1 v2 r2) (and-then ! (load ! (from ! (stop !)) (look ! 36 refl)) (and-then ! (load ! (from ! (stop !)) (look ! 26 refl)) (and-then ! (load ! (from ! (stop !)) (look ! 24 refl)) (no-more !)))) (λ v3.
           use1 W (later (some (λ (r3 : ReceiptShown). (‵ ftrue ⊛ ‵ (tReceiptShown.the-row .own r3 (v3 ∷ []))) ⊛ raw (Got3 v1 r1 v2 r2 r3)))) (id⊢ 𝓤 _) $ await ! tt $ pick ! (λ r3.
-          split ! $ move ! (1 ∷ []) $ use1 W (raw (fact 𝓤 (r3 ≡ receiptAt (isStarted ((h₀ .starting) .stage)) (slotBy r1 (getD (h₀ .places .rejected) (r1 .rejected) 0) (getD (h₀ .places .others) (r1 .others) 0)) (getD (h₀ .slots) (slotBy r1 (getD (h₀ .places .rejected) (r1 .rejected) 0) (getD (h₀ .places .others) (r1 .others) 0)) blank)))) (got3 v1 r1 v2 r2 r3) $ heard ! (r3 ≡ receiptAt (isStarted ((h₀ .starting) .stage)) (slotBy r1 (getD (h₀ .places .rejected) (r1 .rejected) 0) (getD (h₀ .places .others) (r1 .others) 0)) (getD (h₀ .slots) (slotBy r1 (getD (h₀ .places .rejected) (r1 .rejected) 0) (getD (h₀ .places .others) (r1 .others) 0)) blank)) (λ e3. split ! $ drop ! $ peeks ! tReceiptShown.the-row (Is tReceiptShown.the-row) (shows 𝓤 H A tReceiptShown.the-row) r3 (v3 ∷ []) (λ is3. drop ! $
+          split ! $ move ! (1 ∷ []) $ use1 W (raw (fact 𝓤 (r3 ≡ receiptAt (isStarted ((h₀ .starting) .stage)) (slotBy r1 (getD (h₀ .places .rejected) (r1 .rejected) 0) (getD (h₀ .places .others) (r1 .others) 0)) (getD (h₀ .slots) (slotBy r1 (getD (h₀ .places .rejected) (r1 .rejected) 0) (getD (h₀ .places .others) (r1 .others) 0)) noReceipt)))) (got3 v1 r1 v2 r2 r3) $ heard ! (r3 ≡ receiptAt (isStarted ((h₀ .starting) .stage)) (slotBy r1 (getD (h₀ .places .rejected) (r1 .rejected) 0) (getD (h₀ .places .others) (r1 .others) 0)) (getD (h₀ .slots) (slotBy r1 (getD (h₀ .places .rejected) (r1 .rejected) 0) (getD (h₀ .places .others) (r1 .others) 0)) noReceipt)) (λ e3. split ! $ drop ! $ peeks ! tReceiptShown.the-row (Is tReceiptShown.the-row) (shows 𝓤 H A tReceiptShown.the-row) r3 (v3 ∷ []) (λ is3. drop ! $
           land ! (from ! (stop !)) (init ! 41 refl (LL.lawful tReceiptShown.the-type tReceiptShown′.the-laws 𝓤 H A W .typed r3 _ is3 .0)) $
           rewrite ! 41 (λ (u : Val). ‵ (fat fullShare mirReceiptShown l₀ 0 u)) (ap only (LL.tells tReceiptShown.the-type tReceiptShown′.the-laws r3 (v3 ∷ []) is3) ∙ ap (λ (u : ReceiptShown). vReceiptShown u) (e3)) refl $
           shuts ! tt tRuntime.the-row q1 h₀ (vRuntime h₀ ∷ []) blk off $
           returns ! (look ! 39 refl) $ forget ! 3 refl $ forget ! 5 refl $ forget ! 7 refl $ forget ! 9 refl $ forget ! 11 refl $ forget ! 13 refl $ forget ! 15 refl $ forget ! 17 refl $ forget ! 19 refl $ forget ! 21 refl $ forget ! 23 refl $ forget ! 25 refl $ forget ! 27 refl $ forget ! 29 refl $ forget ! 31 refl $ forget ! 33 refl $ forget ! 35 refl $ forget ! 37 refl $ forget ! 39 refl $
           move ! (39 ∷ 40 ∷ []) $ free1 ! $ move ! (37 ∷ 38 ∷ []) $ free1 ! $ move ! (35 ∷ 36 ∷ []) $ free1 ! $ move ! (33 ∷ 34 ∷ []) $ free1 ! $ move ! (31 ∷ 32 ∷ []) $ free1 ! $ move ! (29 ∷ 30 ∷ []) $ free1 ! $ move ! (27 ∷ 28 ∷ []) $ free1 ! $ move ! (25 ∷ 26 ∷ []) $ free1 ! $ move ! (23 ∷ 24 ∷ []) $ free1 ! $ move ! (21 ∷ 22 ∷ []) $ free1 ! $ move ! (19 ∷ 20 ∷ []) $ free1 ! $ move ! (17 ∷ 18 ∷ []) $ free1 ! $ move ! (15 ∷ 16 ∷ []) $ free1 ! $ move ! (13 ∷ 14 ∷ []) $ free1 ! $ move ! (11 ∷ 12 ∷ []) $ free1 ! $ move ! (9 ∷ 10 ∷ []) $ free1 ! $ move ! (7 ∷ 8 ∷ []) $ free1 ! $ move ! (5 ∷ 6 ∷ []) $ free1 ! $ move ! (3 ∷ 4 ∷ []) $ free1 ! $ free0 ! $
-          by ! (exits (receiptAt (isStarted ((h₀ .starting) .stage)) (slotBy r1 (getD (h₀ .places .rejected) (r1 .rejected) 0) (getD (h₀ .places .others) (r1 .others) 0)) (getD (h₀ .slots) (slotBy r1 (getD (h₀ .places .rejected) (r1 .rejected) 0) (getD (h₀ .places .others) (r1 .others) 0)) blank)) (receipt-reads h₀ (good .kept) index r1 e1) (is-of3 v1 r1 v2 r2 r3 v3 is3 e3))))))))))))))))
+          by ! (exits (receiptAt (isStarted ((h₀ .starting) .stage)) (slotBy r1 (getD (h₀ .places .rejected) (r1 .rejected) 0) (getD (h₀ .places .others) (r1 .others) 0)) (getD (h₀ .slots) (slotBy r1 (getD (h₀ .places .rejected) (r1 .rejected) 0) (getD (h₀ .places .others) (r1 .others) 0)) noReceipt)) (receipt-reads h₀ (good .kept) index r1 e1) (is-of3 v1 r1 v2 r2 r3 v3 is3 e3))))))))))))))))
 
     walk-shape : ent 𝓤 (⋆ 𝓤 H A (‵ (fres γ (tRuntime.the-row .coded .code h₀)) ∷ ‵ (fshr-bor κ (λ s. partAt tRuntime.the-row s h₀ blk off)) ∷ ‵ (flft κ share) ∷ [])) (WpFn 𝓤 H C Λ fn (vptr blk off ∷ vint w64 index ∷ []) Post)
     walk-shape =

@@ -123,7 +123,7 @@ use Rattle.rules.specs.Protocol.{proceed, react, Replies, Recorded as RecordedR
 use Rattle.rules.specs.Rules.{trip as tripRule}
 use Rattle.runtime.specs.Runtimes.{handIn, bookOn, tablesIn, askedIn, stateIn}
 use mathlib.Core.Option.{none}
-use Rattle.receipts.specs.Blank.{blank}
+use Rattle.model.specs.Records.{noReceipt}
 use Rattle.runtime.proofs.Onward.{resumes}
 use Rattle.runtime.proofs.Replies.{fails}
 use Rattle.runtime.proofs.Turned.{recorded-none, recorded-other, recorded-leased, recorded-submitted, recorded-fails, recorded-storms, recorded-resumes}
@@ -230,16 +230,16 @@ module _ {M : Type 1} (𝓤 : URA M) (H : Heap 𝓤) (A : Atoms 𝓤) (W : Given
 
   module _ (v1 : Val) (r1 : OnRecorded) where
     abbrev given3 : GName → RefT Runtime × (Reason × Unit {0})
-    given3 = λ γ3. (ref-at tRuntime.the-row blk off γ3 h₀, ((getD (h₀ .slots) (h₀ .slot) blank) .reason, tt))
+    given3 = λ γ3. (ref-at tRuntime.the-row blk off γ3 h₀, ((getD (h₀ .slots) (h₀ .slot) noReceipt) .reason, tt))
 
     abbrev to3 : ℕ → GName → tripleOf 𝓤 H A c-trip_order.signature (c-trip_order.spec 𝓤 H A at-mem run) .Ghost
-    to3 = λ ν3 γ3. (((ν3 ∷ [], tt), (fullShare, tt), tt, given3 γ3, (vptr blk off ∷ [], (vReason ((getD (h₀ .slots) (h₀ .slot) blank) .reason) ∷ [], tt))), tt)
+    to3 = λ ν3 γ3. (((ν3 ∷ [], tt), (fullShare, tt), tt, given3 γ3, (vptr blk off ∷ [], (vReason ((getD (h₀ .slots) (h₀ .slot) noReceipt) .reason) ∷ [], tt))), tt)
 
     is-of3 : (r3 : Answer) (v3 : Val) → Is tAnswer.the-row r3 (v3 ∷ []) → Is tAnswer.the-row r3 (vAnswer r3 ∷ [])
     is-of3 r3 v3 is3 = subst (Is tAnswer.the-row r3) (EL.tells tAnswer.the-type tAnswer′.the-laws r3 (v3 ∷ []) is3) is3
 
-    goes3 : (ν3 : ℕ) (γ3 : GName) → Is tReason.the-row ((getD (h₀ .slots) (h₀ .slot) blank) .reason) (vReason ((getD (h₀ .slots) (h₀ .slot) blank) .reason) ∷ []) → Good h₀ → ent 𝓤 (sep 𝓤 (A .lft (ν3 ∷ []) fullShare) (sem 𝓤 H A (MutRef (named 0) (ν3 ∷ []) tRuntime.the-row .own (ref-at tRuntime.the-row blk off γ3 h₀) (vptr blk off ∷ [])))) (Call3 .pre (to3 ν3 γ3))
-    goes3 ν3 γ3 p0 need = qed W (‵ (flft (ν3 ∷ []) fullShare) ∷ ‵ (MutRef (named 0) (ν3 ∷ []) tRuntime.the-row .own (ref-at tRuntime.the-row blk off γ3 h₀) (vptr blk off ∷ [])) ∷ []) ∵ says ! need $ nothing ! $ move ! (1 ∷ 0 ∷ []) $ join ! $ frame ! $ nothing ! $ owned ! tReason.the-row (Is tReason.the-row) (EL.makes tReason.the-type tReason′.the-plain 𝓤 H A) ((getD (h₀ .slots) (h₀ .slot) blank) .reason) _ p0 $ fjoin ! $ move ! (1 ∷ 0 ∷ []) $ fjoin ! $ done !
+    goes3 : (ν3 : ℕ) (γ3 : GName) → Is tReason.the-row ((getD (h₀ .slots) (h₀ .slot) noReceipt) .reason) (vReason ((getD (h₀ .slots) (h₀ .slot) noReceipt) .reason) ∷ []) → Good h₀ → ent 𝓤 (sep 𝓤 (A .lft (ν3 ∷ []) fullShare) (sem 𝓤 H A (MutRef (named 0) (ν3 ∷ []) tRuntime.the-row .own (ref-at tRuntime.the-row blk off γ3 h₀) (vptr blk off ∷ [])))) (Call3 .pre (to3 ν3 γ3))
+    goes3 ν3 γ3 p0 need = qed W (‵ (flft (ν3 ∷ []) fullShare) ∷ ‵ (MutRef (named 0) (ν3 ∷ []) tRuntime.the-row .own (ref-at tRuntime.the-row blk off γ3 h₀) (vptr blk off ∷ [])) ∷ []) ∵ says ! need $ nothing ! $ move ! (1 ∷ 0 ∷ []) $ join ! $ frame ! $ nothing ! $ owned ! tReason.the-row (Is tReason.the-row) (EL.makes tReason.the-type tReason′.the-plain 𝓤 H A) ((getD (h₀ .slots) (h₀ .slot) noReceipt) .reason) _ p0 $ fjoin ! $ move ! (1 ∷ 0 ∷ []) $ fjoin ! $ done !
 
   -- trip_order
   abbrev Call4 : Contract 𝓤
@@ -290,7 +290,7 @@ module _ {M : Type 1} (𝓤 : URA M) (H : Heap 𝓤) (A : Atoms 𝓤) (W : Given
       En = (tAnswer′.mir, l₀) ∷ ((tyRef (named 0) mut (pointee (tRuntime.the-row .written))), l₁) ∷ (mirFixed, l₂) ∷ (mirNumbers, l₃) ∷ (mirWaiting, l₄) ∷ ((tyInt w64), l₅) ∷ (tReason′.mir, l₆) ∷ (tOnRecorded′.mir, l₇) ∷ ((tyInt w64), l₈) ∷ (tyPtr, l₉) ∷ (tyPtr, l₁₀) ∷ (tAnswer′.mir, l₁₁) ∷ (mirWaiting, l₁₂) ∷ (tAwaited′.mir, l₁₃) ∷ ((tyRef erased mut (pointee (tRuntime.the-row .written))), l₁₄) ∷ ((tyRef erased mut (pointee (tRuntime.the-row .written))), l₁₅) ∷ (tReason′.mir, l₁₆) ∷ ((tyRef erased mut (pointee (tRuntime.the-row .written))), l₁₇) ∷ []
 
       module _ (was1 : Is tRuntime.the-row h₀ (vRuntime h₀ ∷ [])) (v1 : Val) (r1 : OnRecorded) (is1 : Is tOnRecorded.the-row r1 (v1 ∷ [])) (e1 : ((s : State) → Sound s → s .fixed ≡ (h₀ .fixed) → s .numbers ≡ (h₀ .numbers) → s .hand .waiting ≡ (h₀ .waiting) → RecordsAs r1 s)) where
-        arms1 : (k1 : OnRecorded) → Is tOnRecorded.the-row k1 (vOnRecorded k1 ∷ []) → r1 ≡ k1 → Sq W (‵ (fobs γ (tRuntime.the-row .coded .code h₀)) ∷ ‵ (fbor κ (Body (mem tRuntime.the-row) blk off γ)) ∷ ‵ (flft κ share) ∷ ‵ (froom (tyRef erased mut (pointee (tRuntime.the-row .written))) l₁₇ 0) ∷ ‵ (fdies (tyRef erased mut (pointee (tRuntime.the-row .written))) l₁₇) ∷ ‵ (froom tReason′.mir l₁₆ 0) ∷ ‵ (fdies tReason′.mir l₁₆) ∷ ‵ (froom (tyRef erased mut (pointee (tRuntime.the-row .written))) l₁₅ 0) ∷ ‵ (fdies (tyRef erased mut (pointee (tRuntime.the-row .written))) l₁₅) ∷ ‵ (froom (tyRef erased mut (pointee (tRuntime.the-row .written))) l₁₄ 0) ∷ ‵ (fdies (tyRef erased mut (pointee (tRuntime.the-row .written))) l₁₄) ∷ ‵ (froom tAwaited′.mir l₁₃ 0) ∷ ‵ (fdies tAwaited′.mir l₁₃) ∷ ‵ (froom mirWaiting l₁₂ 0) ∷ ‵ (fdies mirWaiting l₁₂) ∷ ‵ (froom tAnswer′.mir l₁₁ 0) ∷ ‵ (fdies tAnswer′.mir l₁₁) ∷ ‵ (froom tyPtr l₁₀ 0) ∷ ‵ (fdies tyPtr l₁₀) ∷ ‵ (froom tyPtr l₉ 0) ∷ ‵ (fdies tyPtr l₉) ∷ ‵ (froom (tyInt w64) l₈ 0) ∷ ‵ (fdies (tyInt w64) l₈) ∷ ‵ (fat fullShare tOnRecorded′.mir l₇ 0 (vOnRecorded k1)) ∷ ‵ (fdies tOnRecorded′.mir l₇) ∷ ‵ (fat fullShare tReason′.mir l₆ 0 (vReason ((getD (h₀ .slots) (h₀ .slot) blank) .reason))) ∷ ‵ (fdies tReason′.mir l₆) ∷ ‵ (fat fullShare (tyInt w64) l₅ 0 (vint w64 (h₀ .slot))) ∷ ‵ (fdies (tyInt w64) l₅) ∷ ‵ (fat fullShare mirWaiting l₄ 0 (vWaiting (h₀ .waiting))) ∷ ‵ (fdies mirWaiting l₄) ∷ ‵ (fat fullShare mirNumbers l₃ 0 (vNumbers (h₀ .numbers))) ∷ ‵ (fdies mirNumbers l₃) ∷ ‵ (fat fullShare mirFixed l₂ 0 (vFixed (h₀ .fixed))) ∷ ‵ (fdies mirFixed l₂) ∷ ‵ (fat fullShare (tyRef (named 0) mut (pointee (tRuntime.the-row .written))) l₁ 0 (vptr blk off)) ∷ ‵ (fdies (tyRef (named 0) mut (pointee (tRuntime.the-row .written))) l₁) ∷ ‵ (froom tAnswer′.mir l₀ 0) ∷ ‵ (fdies tAnswer′.mir l₀) ∷ []) (runs C Λ En rest2 (atRet En Post))
+        arms1 : (k1 : OnRecorded) → Is tOnRecorded.the-row k1 (vOnRecorded k1 ∷ []) → r1 ≡ k1 → Sq W (‵ (fobs γ (tRuntime.the-row .coded .code h₀)) ∷ ‵ (fbor κ (Body (mem tRuntime.the-row) blk off γ)) ∷ ‵ (flft κ share) ∷ ‵ (froom (tyRef erased mut (pointee (tRuntime.the-row .written))) l₁₇ 0) ∷ ‵ (fdies (tyRef erased mut (pointee (tRuntime.the-row .written))) l₁₇) ∷ ‵ (froom tReason′.mir l₁₆ 0) ∷ ‵ (fdies tReason′.mir l₁₆) ∷ ‵ (froom (tyRef erased mut (pointee (tRuntime.the-row .written))) l₁₅ 0) ∷ ‵ (fdies (tyRef erased mut (pointee (tRuntime.the-row .written))) l₁₅) ∷ ‵ (froom (tyRef erased mut (pointee (tRuntime.the-row .written))) l₁₄ 0) ∷ ‵ (fdies (tyRef erased mut (pointee (tRuntime.the-row .written))) l₁₄) ∷ ‵ (froom tAwaited′.mir l₁₃ 0) ∷ ‵ (fdies tAwaited′.mir l₁₃) ∷ ‵ (froom mirWaiting l₁₂ 0) ∷ ‵ (fdies mirWaiting l₁₂) ∷ ‵ (froom tAnswer′.mir l₁₁ 0) ∷ ‵ (fdies tAnswer′.mir l₁₁) ∷ ‵ (froom tyPtr l₁₀ 0) ∷ ‵ (fdies tyPtr l₁₀) ∷ ‵ (froom tyPtr l₉ 0) ∷ ‵ (fdies tyPtr l₉) ∷ ‵ (froom (tyInt w64) l₈ 0) ∷ ‵ (fdies (tyInt w64) l₈) ∷ ‵ (fat fullShare tOnRecorded′.mir l₇ 0 (vOnRecorded k1)) ∷ ‵ (fdies tOnRecorded′.mir l₇) ∷ ‵ (fat fullShare tReason′.mir l₆ 0 (vReason ((getD (h₀ .slots) (h₀ .slot) noReceipt) .reason))) ∷ ‵ (fdies tReason′.mir l₆) ∷ ‵ (fat fullShare (tyInt w64) l₅ 0 (vint w64 (h₀ .slot))) ∷ ‵ (fdies (tyInt w64) l₅) ∷ ‵ (fat fullShare mirWaiting l₄ 0 (vWaiting (h₀ .waiting))) ∷ ‵ (fdies mirWaiting l₄) ∷ ‵ (fat fullShare mirNumbers l₃ 0 (vNumbers (h₀ .numbers))) ∷ ‵ (fdies mirNumbers l₃) ∷ ‵ (fat fullShare mirFixed l₂ 0 (vFixed (h₀ .fixed))) ∷ ‵ (fdies mirFixed l₂) ∷ ‵ (fat fullShare (tyRef (named 0) mut (pointee (tRuntime.the-row .written))) l₁ 0 (vptr blk off)) ∷ ‵ (fdies (tyRef (named 0) mut (pointee (tRuntime.the-row .written))) l₁) ∷ ‵ (froom tAnswer′.mir l₀ 0) ∷ ‵ (fdies tAnswer′.mir l₀) ∷ []) (runs C Λ En rest2 (atRet En Post))
         arms1 OnRecorded.NoReply k1-is k1-eq =
             first ! $ switches-on ! (load ! (from ! (vrt ! refl (fld ! refl (stop !)))) (look-tag ! 23 (whole !))) $ exec ! C Λ En (assign (place 11 []) (aggregate ((int w8 10) ∷ []))) (anyQ (afterSeq 𝓤 H (Wp 𝓤 H C Λ En rest1 (atReturn 𝓤 H En Post)) (atReturn 𝓤 H En Post))) $
             assigns-last ! (agg ! (and-then ! (lit ! tt) (no-more !))) (from ! (stop !)) (init ! 15 refl (EL.lawful tAnswer.the-type tAnswer′.the-laws 𝓤 H A W tt .typed Answer.NoReplyAwaited _ (EL.owes tAnswer.the-type tAnswer′.the-laws Answer.NoReplyAwaited tt) .0)) $
@@ -339,10 +339,10 @@ module _ {M : Type 1} (𝓤 : URA M) (H : Heap 𝓤) (A : Atoms 𝓤) (W : Given
         arms1 OnRecorded.Fails k1-is k1-eq =
             first ! $ switches-on ! (load ! (from ! (vrt ! refl (fld ! refl (stop !)))) (look-tag ! 23 (whole !))) $ exec ! C Λ En (seq (assign (place 14 []) (addrOf (place 1 (deref mirRuntime ∷ [])))) (call #runtime·trip-order ((copy (place 14 [])) ∷ (copy (place 6 [])) ∷ []) (place 11 []))) (anyQ (afterSeq 𝓤 H (Wp 𝓤 H C Λ En rest1 (atReturn 𝓤 H En Post)) (atReturn 𝓤 H En Post))) $
             assigns ! (addr ! (from ! (hop ! (look ! 35 refl) (stop !)))) (from ! (stop !)) (init ! 9 refl (tt, tt)) $
-            passes-on ! tt tRuntime.the-row h₀ blk off (λ ν3 γ3. use2 W (raw (Call3 .pre (to3 v1 r1 ν3 γ3))) (goes3 v1 r1 ν3 γ3 (LL.owed tReceipt.the-type tReceipt′.the-laws (getD (h₀ .slots) (h₀ .slot) blank) (vReceipt (getD (h₀ .slots) (h₀ .slot) blank) ∷ []) (table-at tReceipt.the-field tReceipt′.the-field-laws 65 (h₀ .slots) (LL.owed tRuntime.the-type tRuntime′.the-laws h₀ (vRuntime h₀ ∷ []) was1 .1 .1 .1 .1 .1 .1 .1 .1 .1 .1 .1 .1 .1 .1 .1 .1 .1 .1 .1 .1 .1 .0) (h₀ .slot) blank (good .kept .placed .slot)) .1 .1 .1 .1 .1 .1 .1 .1 .1 .1 .1 .1 .1 .1 .1 .1 .1 .1 .1 .0) good) $
+            passes-on ! tt tRuntime.the-row h₀ blk off (λ ν3 γ3. use2 W (raw (Call3 .pre (to3 v1 r1 ν3 γ3))) (goes3 v1 r1 ν3 γ3 (LL.owed tReceipt.the-type tReceipt′.the-laws (getD (h₀ .slots) (h₀ .slot) noReceipt) (vReceipt (getD (h₀ .slots) (h₀ .slot) noReceipt) ∷ []) (table-at tReceipt.the-field tReceipt′.the-field-laws 65 (h₀ .slots) (LL.owed tRuntime.the-type tRuntime′.the-laws h₀ (vRuntime h₀ ∷ []) was1 .1 .1 .1 .1 .1 .1 .1 .1 .1 .1 .1 .1 .1 .1 .1 .1 .1 .1 .1 .1 .1 .0) (h₀ .slot) noReceipt (good .kept .placed .slot)) .1 .1 .1 .1 .1 .1 .1 .1 .1 .1 .1 .1 .1 .1 .1 .1 .1 .1 .1 .0) good) $
             calls-at-last ! fm Call3 known-trip-order (to3 v1 r1 ν3 γ3) (and-then ! (load ! (from ! (stop !)) (look ! 8 refl)) (and-then ! (load ! (from ! (stop !)) (look ! 24 refl)) (no-more !))) (λ v3.
-            use1 W (later (some (λ (r3 : Answer). ((‵ (flft (ν3 ∷ []) fullShare) ⊛ ‵ ftrue) ⊛ ‵ (tAnswer.the-row .own r3 (v3 ∷ []))) ⊛ some (λ (zs3 : Runtime × (Unit {0} × Unit {0})). ‵ (lasts c-trip_order.ended (ν3 ∷ [], tt) (given3 v1 r1 γ3) zs3) ⊛ raw (fact 𝓤 (MovesIn (zs3 .0) r3 (proceed (tripRule ((getD (h₀ .slots) (h₀ .slot) blank) .reason) (h₀ .submission .now) (bookOn h₀) (λ b. Done b (Submitted (handIn h₀ .receipt))))))))))) (id⊢ 𝓤 _) $ await ! tt $ pick ! (λ r3.
-            split ! $ move ! (1 ∷ []) $ pick ! (λ zs3. split ! $ move ! (1 ∷ []) $ heard ! (MovesIn (zs3 .0) r3 (proceed (tripRule ((getD (h₀ .slots) (h₀ .slot) blank) .reason) (h₀ .submission .now) (bookOn h₀) (λ b. Done b (Submitted (handIn h₀ .receipt)))))) (λ e3. fsplit ! $ move ! (2 ∷ []) $ split ! $ move ! (1 ∷ []) $ peeks ! tAnswer.the-row (Is tAnswer.the-row) (shows 𝓤 H A tAnswer.the-row) r3 (v3 ∷ []) (λ is3. drop ! $
+            use1 W (later (some (λ (r3 : Answer). ((‵ (flft (ν3 ∷ []) fullShare) ⊛ ‵ ftrue) ⊛ ‵ (tAnswer.the-row .own r3 (v3 ∷ []))) ⊛ some (λ (zs3 : Runtime × (Unit {0} × Unit {0})). ‵ (lasts c-trip_order.ended (ν3 ∷ [], tt) (given3 v1 r1 γ3) zs3) ⊛ raw (fact 𝓤 (MovesIn (zs3 .0) r3 (proceed (tripRule ((getD (h₀ .slots) (h₀ .slot) noReceipt) .reason) (h₀ .submission .now) (bookOn h₀) (λ b. Done b (Submitted (handIn h₀ .receipt))))))))))) (id⊢ 𝓤 _) $ await ! tt $ pick ! (λ r3.
+            split ! $ move ! (1 ∷ []) $ pick ! (λ zs3. split ! $ move ! (1 ∷ []) $ heard ! (MovesIn (zs3 .0) r3 (proceed (tripRule ((getD (h₀ .slots) (h₀ .slot) noReceipt) .reason) (h₀ .submission .now) (bookOn h₀) (λ b. Done b (Submitted (handIn h₀ .receipt)))))) (λ e3. fsplit ! $ move ! (2 ∷ []) $ split ! $ move ! (1 ∷ []) $ peeks ! tAnswer.the-row (Is tAnswer.the-row) (shows 𝓤 H A tAnswer.the-row) r3 (v3 ∷ []) (λ is3. drop ! $
             land-last ! (from ! (stop !)) (init ! 16 refl (EL.lawful tAnswer.the-type tAnswer′.the-laws 𝓤 H A W tt .typed r3 _ is3 .0)) $
             exec ! C Λ En rest1 (atRet En Post) $
             rewrite ! 16 (λ (u : Val). ‵ (fat fullShare tAnswer′.mir l₁₁ 0 u)) (ap only (EL.tells tAnswer.the-type tAnswer′.the-laws r3 (v3 ∷ []) is3)) refl $
@@ -395,7 +395,7 @@ module _ {M : Type 1} (𝓤 : URA M) (H : Heap 𝓤) (A : Atoms 𝓤) (W : Given
           assigns ! (addr ! (from ! (hop ! (look ! 36 refl) (fld ! {τ = (tyArray mirReceipt 65)} {d = 3856} refl (stop !))))) (from ! (stop !)) (init ! 20 refl (tt, tt)) $
           assigns ! (bin ! (load ! (from ! (stop !)) (look ! 20 refl)) (load ! (from ! (stop !)) (look ! 22 refl)) tt) (from ! (stop !)) (init ! 18 refl (tt, tt)) $
           rewrite ! 18 (λ (n : ℕ). ‵ (fat fullShare tyPtr l₁₀ 0 (vptr blk n))) (sym (place-is 128 _ (h₀ .slot))) refl $
-          assigns ! (of-opd ! (load ! (from ! (hop ! (look ! 18 refl) (fld ! {τ = tReason′.mir} {d = 120} refl (stop !)))) (look-in ! 0 (sub ! 19 {τ = tReason′.mir} {d = 120} refl (item-at ! tReceipt.the-field tReceipt′.the-field-laws 65 (h₀ .slots) (LL.owed tRuntime.the-type tRuntime′.the-laws h₀ (vRuntime h₀ ∷ []) was1 .1 .1 .1 .1 .1 .1 .1 .1 .1 .1 .1 .1 .1 .1 .1 .1 .1 .1 .1 .1 .1 .0) (h₀ .slot) blank (good .kept .placed .slot) (sub ! 21 {τ = (tyArray mirReceipt 65)} {d = 3856} refl (whole-raw ! mirRuntime))))))) (from ! (stop !)) (init ! 26 refl (EL.lawful tReason.the-type tReason′.the-laws 𝓤 H A W tt .typed ((getD (h₀ .slots) (h₀ .slot) blank) .reason) _ (LL.owed tReceipt.the-type tReceipt′.the-laws (getD (h₀ .slots) (h₀ .slot) blank) (vReceipt (getD (h₀ .slots) (h₀ .slot) blank) ∷ []) (table-at tReceipt.the-field tReceipt′.the-field-laws 65 (h₀ .slots) (LL.owed tRuntime.the-type tRuntime′.the-laws h₀ (vRuntime h₀ ∷ []) was1 .1 .1 .1 .1 .1 .1 .1 .1 .1 .1 .1 .1 .1 .1 .1 .1 .1 .1 .1 .1 .1 .0) (h₀ .slot) blank (good .kept .placed .slot)) .1 .1 .1 .1 .1 .1 .1 .1 .1 .1 .1 .1 .1 .1 .1 .1 .1 .1 .1 .0) .0)) $
+          assigns ! (of-opd ! (load ! (from ! (hop ! (look ! 18 refl) (fld ! {τ = tReason′.mir} {d = 120} refl (stop !)))) (look-in ! 0 (sub ! 19 {τ = tReason′.mir} {d = 120} refl (item-at ! tReceipt.the-field tReceipt′.the-field-laws 65 (h₀ .slots) (LL.owed tRuntime.the-type tRuntime′.the-laws h₀ (vRuntime h₀ ∷ []) was1 .1 .1 .1 .1 .1 .1 .1 .1 .1 .1 .1 .1 .1 .1 .1 .1 .1 .1 .1 .1 .1 .0) (h₀ .slot) noReceipt (good .kept .placed .slot) (sub ! 21 {τ = (tyArray mirReceipt 65)} {d = 3856} refl (whole-raw ! mirRuntime))))))) (from ! (stop !)) (init ! 26 refl (EL.lawful tReason.the-type tReason′.the-laws 𝓤 H A W tt .typed ((getD (h₀ .slots) (h₀ .slot) noReceipt) .reason) _ (LL.owed tReceipt.the-type tReceipt′.the-laws (getD (h₀ .slots) (h₀ .slot) noReceipt) (vReceipt (getD (h₀ .slots) (h₀ .slot) noReceipt) ∷ []) (table-at tReceipt.the-field tReceipt′.the-field-laws 65 (h₀ .slots) (LL.owed tRuntime.the-type tRuntime′.the-laws h₀ (vRuntime h₀ ∷ []) was1 .1 .1 .1 .1 .1 .1 .1 .1 .1 .1 .1 .1 .1 .1 .1 .1 .1 .1 .1 .1 .1 .0) (h₀ .slot) noReceipt (good .kept .placed .slot)) .1 .1 .1 .1 .1 .1 .1 .1 .1 .1 .1 .1 .1 .1 .1 .1 .1 .1 .1 .0) .0)) $
           use0 W (raw (Call1 .pre (to1))) (goes1 (LL.owed tRuntime.the-type tRuntime′.the-laws h₀ (vRuntime h₀ ∷ []) was1 .1 .1 .1 .1 .1 .1 .1 .1 .1 .1 .1 .0) (LL.owed tRuntime.the-type tRuntime′.the-laws h₀ (vRuntime h₀ ∷ []) was1 .1 .0) (LL.owed tRuntime.the-type tRuntime′.the-laws h₀ (vRuntime h₀ ∷ []) was1 .0)) $
           calls-at ! fm Call1 known-on-recorded (to1) (and-then ! (load ! (from ! (stop !)) (look ! 35 refl)) (and-then ! (load ! (from ! (stop !)) (look ! 33 refl)) (and-then ! (load ! (from ! (stop !)) (look ! 31 refl)) (no-more !)))) (λ v1.
           use1 W (later (some (λ (r1 : OnRecorded). (‵ ftrue ⊛ ‵ (tOnRecorded.the-row .own r1 (v1 ∷ []))) ⊛ raw (Got1 r1)))) (id⊢ 𝓤 _) $ await ! tt $ pick ! (λ r1.

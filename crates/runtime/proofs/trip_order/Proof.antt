@@ -113,7 +113,7 @@ use Rattle.runtime.specs.Promises.{Leaves, Good, MovesIn}
 use Rattle.rules.specs.Interaction.{Done, Submitted}
 use Rattle.rules.specs.Protocol.{proceed}
 use Rattle.runtime.specs.Runtimes.{handIn, bookOn}
-use Rattle.receipts.specs.Blank.{blank}
+use Rattle.model.specs.Records.{noReceipt}
 use Rattle.runtime.proofs.Courses.{followed-moves}
 use Rattle.runtime.proofs.Alters.{submitting, submitting-good, trips-order}
 
@@ -179,7 +179,7 @@ module _ {M : Type 1} (𝓤 : URA M) (H : Heap 𝓤) (A : Atoms 𝓤) (W : Given
     goes1 p0 p1 p2 p3 p4 p5 = qed W [] ∵ nothing ! $ owned ! u8 (Is u8) (uint-makes 𝓤 H A W w8) 0 _ p5 $ fjoin ! $ owned ! tAfterTrip.the-row (Is tAfterTrip.the-row) (EL.makes tAfterTrip.the-type tAfterTrip′.the-plain 𝓤 H A) AfterTrip.Submit _ p4 $ fjoin ! $ owned ! u64 (Is u64) (uint-makes 𝓤 H A W w64) (h₀ .submission .now) _ p3 $ fjoin ! $ owned ! tReason.the-row (Is tReason.the-row) (EL.makes tReason.the-type tReason′.the-plain 𝓤 H A) reason _ p2 $ fjoin ! $ owned ! tNumbers.the-row (Is tNumbers.the-row) (LL.makes tNumbers.the-type tNumbers′.the-plain 𝓤 H A) (h₀ .numbers) _ p1 $ fjoin ! $ owned ! tFixed.the-row (Is tFixed.the-row) (LL.makes tFixed.the-type tFixed′.the-plain 𝓤 H A) (h₀ .fixed) _ p0 $ fjoin ! $ nothing ! $ join ! $ frame ! $ done !
 
   abbrev left1 : (v1 : Val) (r1 : Course) → Runtime
-  left1 v1 r1 = record { waiting = h₀ .waiting; numbers = h₀ .numbers; cursor = h₀ .cursor; slot = h₀ .slot; axis = h₀ .axis; why = h₀ .why; falling = h₀ .falling; revoked = h₀ .revoked; carrying = h₀ .carrying; pending = h₀ .pending; starting = h₀ .starting; fixed = h₀ .fixed; places = h₀ .places; leases = h₀ .leases; active = h₀ .active; capabilities = h₀ .capabilities; replay = h₀ .replay; submission = h₀ .submission; request = h₀ .request; renewal = h₀ .renewal; submitted = getD (h₀ .slots) (h₀ .slot) blank; slots = h₀ .slots }
+  left1 v1 r1 = record { waiting = h₀ .waiting; numbers = h₀ .numbers; cursor = h₀ .cursor; slot = h₀ .slot; axis = h₀ .axis; why = h₀ .why; falling = h₀ .falling; revoked = h₀ .revoked; carrying = h₀ .carrying; pending = h₀ .pending; starting = h₀ .starting; fixed = h₀ .fixed; places = h₀ .places; leases = h₀ .leases; active = h₀ .active; capabilities = h₀ .capabilities; replay = h₀ .replay; submission = h₀ .submission; request = h₀ .request; renewal = h₀ .renewal; submitted = getD (h₀ .slots) (h₀ .slot) noReceipt; slots = h₀ .slots }
 
   -- follow
   abbrev Call2 : Contract 𝓤
@@ -224,8 +224,8 @@ module _ {M : Type 1} (𝓤 : URA M) (H : Heap 𝓤) (A : Atoms 𝓤) (W : Given
           assigns ! (addr ! (from ! (hop ! (look ! 28 refl) (fld ! {τ = (tyArray mirReceipt 65)} {d = 3856} refl (stop !))))) (from ! (stop !)) (init ! 12 refl (tt, tt)) $
           assigns ! (bin ! (load ! (from ! (stop !)) (look ! 12 refl)) (load ! (from ! (stop !)) (look ! 14 refl)) tt) (from ! (stop !)) (init ! 10 refl (tt, tt)) $
           rewrite ! 10 (λ (n : ℕ). ‵ (fat fullShare tyPtr l₁₀ 0 (vptr blk n))) (sym (place-is 128 _ (h₀ .slot))) refl $
-          assigns ! (of-opd ! (load ! (from ! (hop ! (look ! 10 refl) (stop !))) (look-in ! 0 (item-at ! tReceipt.the-field tReceipt′.the-field-laws 65 (h₀ .slots) (LL.owed tRuntime.the-type tRuntime′.the-laws h₀ (vRuntime h₀ ∷ []) was1 .1 .1 .1 .1 .1 .1 .1 .1 .1 .1 .1 .1 .1 .1 .1 .1 .1 .1 .1 .1 .1 .0) (h₀ .slot) blank (good .kept .placed .slot) (sub ! 21 {τ = (tyArray mirReceipt 65)} {d = 3856} refl (whole-raw ! mirRuntime)))))) (from ! (stop !)) (init ! 8 refl (LL.lawful tReceipt.the-type tReceipt′.the-laws 𝓤 H A W .typed (getD (h₀ .slots) (h₀ .slot) blank) _ (table-at tReceipt.the-field tReceipt′.the-field-laws 65 (h₀ .slots) (LL.owed tRuntime.the-type tRuntime′.the-laws h₀ (vRuntime h₀ ∷ []) was1 .1 .1 .1 .1 .1 .1 .1 .1 .1 .1 .1 .1 .1 .1 .1 .1 .1 .1 .1 .1 .1 .0) (h₀ .slot) blank (good .kept .placed .slot)) .0)) $
-          assigns ! (of-opd ! (load ! (from ! (stop !)) (look ! 8 refl))) (from ! (hop ! (look ! 28 refl) (fld ! {τ = mirReceipt} {d = 3728} refl (stop !)))) (store-in ! 0 (sub ! 20 {τ = mirReceipt} {d = 3728} refl (whole-raw ! mirRuntime)) (LL.lawful tReceipt.the-type tReceipt′.the-laws 𝓤 H A W .typed (getD (h₀ .slots) (h₀ .slot) blank) _ (table-at tReceipt.the-field tReceipt′.the-field-laws 65 (h₀ .slots) (LL.owed tRuntime.the-type tRuntime′.the-laws h₀ (vRuntime h₀ ∷ []) was1 .1 .1 .1 .1 .1 .1 .1 .1 .1 .1 .1 .1 .1 .1 .1 .1 .1 .1 .1 .1 .1 .0) (h₀ .slot) blank (good .kept .placed .slot)) .0)) $
+          assigns ! (of-opd ! (load ! (from ! (hop ! (look ! 10 refl) (stop !))) (look-in ! 0 (item-at ! tReceipt.the-field tReceipt′.the-field-laws 65 (h₀ .slots) (LL.owed tRuntime.the-type tRuntime′.the-laws h₀ (vRuntime h₀ ∷ []) was1 .1 .1 .1 .1 .1 .1 .1 .1 .1 .1 .1 .1 .1 .1 .1 .1 .1 .1 .1 .1 .1 .0) (h₀ .slot) noReceipt (good .kept .placed .slot) (sub ! 21 {τ = (tyArray mirReceipt 65)} {d = 3856} refl (whole-raw ! mirRuntime)))))) (from ! (stop !)) (init ! 8 refl (LL.lawful tReceipt.the-type tReceipt′.the-laws 𝓤 H A W .typed (getD (h₀ .slots) (h₀ .slot) noReceipt) _ (table-at tReceipt.the-field tReceipt′.the-field-laws 65 (h₀ .slots) (LL.owed tRuntime.the-type tRuntime′.the-laws h₀ (vRuntime h₀ ∷ []) was1 .1 .1 .1 .1 .1 .1 .1 .1 .1 .1 .1 .1 .1 .1 .1 .1 .1 .1 .1 .1 .1 .0) (h₀ .slot) noReceipt (good .kept .placed .slot)) .0)) $
+          assigns ! (of-opd ! (load ! (from ! (stop !)) (look ! 8 refl))) (from ! (hop ! (look ! 28 refl) (fld ! {τ = mirReceipt} {d = 3728} refl (stop !)))) (store-in ! 0 (sub ! 20 {τ = mirReceipt} {d = 3728} refl (whole-raw ! mirRuntime)) (LL.lawful tReceipt.the-type tReceipt′.the-laws 𝓤 H A W .typed (getD (h₀ .slots) (h₀ .slot) noReceipt) _ (table-at tReceipt.the-field tReceipt′.the-field-laws 65 (h₀ .slots) (LL.owed tRuntime.the-type tRuntime′.the-laws h₀ (vRuntime h₀ ∷ []) was1 .1 .1 .1 .1 .1 .1 .1 .1 .1 .1 .1 .1 .1 .1 .1 .1 .1 .1 .1 .1 .1 .0) (h₀ .slot) noReceipt (good .kept .placed .slot)) .0)) $
           assigns ! (agg ! (and-then ! (lit ! tt) (no-more !))) (from ! (stop !)) (init ! 6 refl (EL.lawful tAfterTrip.the-type tAfterTrip′.the-laws 𝓤 H A W tt .typed AfterTrip.Submit _ (EL.owes tAfterTrip.the-type tAfterTrip′.the-laws AfterTrip.Submit tt) .0)) $
           use0 W (raw (Call1 .pre (to1))) (goes1 (LL.owed tRuntime.the-type tRuntime′.the-laws h₀ (vRuntime h₀ ∷ []) was1 .1 .1 .1 .1 .1 .1 .1 .1 .1 .1 .1 .0) (LL.owed tRuntime.the-type tRuntime′.the-laws h₀ (vRuntime h₀ ∷ []) was1 .1 .0) reason-is (LL.owed tSubmission.the-type tSubmission′.the-laws (h₀ .submission) (vSubmission (h₀ .submission) ∷ []) (LL.owed tRuntime.the-type tRuntime′.the-laws h₀ (vRuntime h₀ ∷ []) was1 .1 .1 .1 .1 .1 .1 .1 .1 .1 .1 .1 .1 .1 .1 .1 .1 .1 .0) .1 .1 .1 .0) (EL.owes tAfterTrip.the-type tAfterTrip′.the-laws AfterTrip.Submit tt) (refl, lit< tt)) $
           calls-at ! fm Call1 known-trips (to1) (and-then ! (load ! (from ! (stop !)) (look ! 25 refl)) (and-then ! (load ! (from ! (stop !)) (look ! 23 refl)) (and-then ! (load ! (from ! (stop !)) (look ! 27 refl)) (and-then ! (load ! (from ! (stop !)) (look ! 21 refl)) (and-then ! (load ! (from ! (stop !)) (look ! 7 refl)) (and-then ! (lit ! tt) (no-more !))))))) (λ v1.
@@ -234,7 +234,7 @@ module _ {M : Type 1} (𝓤 : URA M) (H : Heap 𝓤) (A : Atoms 𝓤) (W : Given
           land ! (from ! (stop !)) (init ! 16 refl (LL.lawful tCourse.the-type tCourse′.the-laws 𝓤 H A W .typed r1 _ is1 .0)) $
           rewrite ! 16 (λ (u : Val). ‵ (fat fullShare mirCourse l₇ 0 u)) (ap only (LL.tells tCourse.the-type tCourse′.the-laws r1 (v1 ∷ []) is1)) refl $
           assigns ! (addr ! (from ! (hop ! (look ! 28 refl) (stop !)))) (from ! (stop !)) (init ! 4 refl (tt, tt)) $
-          owned ! tRuntime.the-row (Is tRuntime.the-row) (LL.makes tRuntime.the-type tRuntime′.the-plain 𝓤 H A) (left1 v1 r1) _ (LL.owes tRuntime.the-type tRuntime′.the-laws (record { waiting = h₀ .waiting; numbers = h₀ .numbers; cursor = h₀ .cursor; slot = h₀ .slot; axis = h₀ .axis; why = h₀ .why; falling = h₀ .falling; revoked = h₀ .revoked; carrying = h₀ .carrying; pending = h₀ .pending; starting = h₀ .starting; fixed = h₀ .fixed; places = h₀ .places; leases = h₀ .leases; active = h₀ .active; capabilities = h₀ .capabilities; replay = h₀ .replay; submission = h₀ .submission; request = h₀ .request; renewal = h₀ .renewal; submitted = getD (h₀ .slots) (h₀ .slot) blank; slots = h₀ .slots }) (LL.owed tRuntime.the-type tRuntime′.the-laws h₀ (vRuntime h₀ ∷ []) was1 .0, (LL.owed tRuntime.the-type tRuntime′.the-laws h₀ (vRuntime h₀ ∷ []) was1 .1 .0, (LL.owed tRuntime.the-type tRuntime′.the-laws h₀ (vRuntime h₀ ∷ []) was1 .1 .1 .0, (LL.owed tRuntime.the-type tRuntime′.the-laws h₀ (vRuntime h₀ ∷ []) was1 .1 .1 .1 .0, (LL.owed tRuntime.the-type tRuntime′.the-laws h₀ (vRuntime h₀ ∷ []) was1 .1 .1 .1 .1 .0, (LL.owed tRuntime.the-type tRuntime′.the-laws h₀ (vRuntime h₀ ∷ []) was1 .1 .1 .1 .1 .1 .0, (LL.owed tRuntime.the-type tRuntime′.the-laws h₀ (vRuntime h₀ ∷ []) was1 .1 .1 .1 .1 .1 .1 .0, (LL.owed tRuntime.the-type tRuntime′.the-laws h₀ (vRuntime h₀ ∷ []) was1 .1 .1 .1 .1 .1 .1 .1 .0, (LL.owed tRuntime.the-type tRuntime′.the-laws h₀ (vRuntime h₀ ∷ []) was1 .1 .1 .1 .1 .1 .1 .1 .1 .0, (LL.owed tRuntime.the-type tRuntime′.the-laws h₀ (vRuntime h₀ ∷ []) was1 .1 .1 .1 .1 .1 .1 .1 .1 .1 .0, (LL.owed tRuntime.the-type tRuntime′.the-laws h₀ (vRuntime h₀ ∷ []) was1 .1 .1 .1 .1 .1 .1 .1 .1 .1 .1 .0, (LL.owed tRuntime.the-type tRuntime′.the-laws h₀ (vRuntime h₀ ∷ []) was1 .1 .1 .1 .1 .1 .1 .1 .1 .1 .1 .1 .0, (LL.owed tRuntime.the-type tRuntime′.the-laws h₀ (vRuntime h₀ ∷ []) was1 .1 .1 .1 .1 .1 .1 .1 .1 .1 .1 .1 .1 .0, (LL.owed tRuntime.the-type tRuntime′.the-laws h₀ (vRuntime h₀ ∷ []) was1 .1 .1 .1 .1 .1 .1 .1 .1 .1 .1 .1 .1 .1 .0, (LL.owed tRuntime.the-type tRuntime′.the-laws h₀ (vRuntime h₀ ∷ []) was1 .1 .1 .1 .1 .1 .1 .1 .1 .1 .1 .1 .1 .1 .1 .0, (LL.owed tRuntime.the-type tRuntime′.the-laws h₀ (vRuntime h₀ ∷ []) was1 .1 .1 .1 .1 .1 .1 .1 .1 .1 .1 .1 .1 .1 .1 .1 .0, (LL.owed tRuntime.the-type tRuntime′.the-laws h₀ (vRuntime h₀ ∷ []) was1 .1 .1 .1 .1 .1 .1 .1 .1 .1 .1 .1 .1 .1 .1 .1 .1 .0, (LL.owed tRuntime.the-type tRuntime′.the-laws h₀ (vRuntime h₀ ∷ []) was1 .1 .1 .1 .1 .1 .1 .1 .1 .1 .1 .1 .1 .1 .1 .1 .1 .1 .0, (LL.owed tRuntime.the-type tRuntime′.the-laws h₀ (vRuntime h₀ ∷ []) was1 .1 .1 .1 .1 .1 .1 .1 .1 .1 .1 .1 .1 .1 .1 .1 .1 .1 .1 .0, (LL.owed tRuntime.the-type tRuntime′.the-laws h₀ (vRuntime h₀ ∷ []) was1 .1 .1 .1 .1 .1 .1 .1 .1 .1 .1 .1 .1 .1 .1 .1 .1 .1 .1 .1 .0, (table-at tReceipt.the-field tReceipt′.the-field-laws 65 (h₀ .slots) (LL.owed tRuntime.the-type tRuntime′.the-laws h₀ (vRuntime h₀ ∷ []) was1 .1 .1 .1 .1 .1 .1 .1 .1 .1 .1 .1 .1 .1 .1 .1 .1 .1 .1 .1 .1 .1 .0) (h₀ .slot) blank (good .kept .placed .slot), (LL.owed tRuntime.the-type tRuntime′.the-laws h₀ (vRuntime h₀ ∷ []) was1 .1 .1 .1 .1 .1 .1 .1 .1 .1 .1 .1 .1 .1 .1 .1 .1 .1 .1 .1 .1 .1 .0, tt))))))))))))))))))))))) $ move ! (1 ∷ 0 ∷ []) $ closes ! tt tRuntime.the-row (left1 v1 r1) (vRuntime (left1 v1 r1) ∷ []) blk off $
+          owned ! tRuntime.the-row (Is tRuntime.the-row) (LL.makes tRuntime.the-type tRuntime′.the-plain 𝓤 H A) (left1 v1 r1) _ (LL.owes tRuntime.the-type tRuntime′.the-laws (record { waiting = h₀ .waiting; numbers = h₀ .numbers; cursor = h₀ .cursor; slot = h₀ .slot; axis = h₀ .axis; why = h₀ .why; falling = h₀ .falling; revoked = h₀ .revoked; carrying = h₀ .carrying; pending = h₀ .pending; starting = h₀ .starting; fixed = h₀ .fixed; places = h₀ .places; leases = h₀ .leases; active = h₀ .active; capabilities = h₀ .capabilities; replay = h₀ .replay; submission = h₀ .submission; request = h₀ .request; renewal = h₀ .renewal; submitted = getD (h₀ .slots) (h₀ .slot) noReceipt; slots = h₀ .slots }) (LL.owed tRuntime.the-type tRuntime′.the-laws h₀ (vRuntime h₀ ∷ []) was1 .0, (LL.owed tRuntime.the-type tRuntime′.the-laws h₀ (vRuntime h₀ ∷ []) was1 .1 .0, (LL.owed tRuntime.the-type tRuntime′.the-laws h₀ (vRuntime h₀ ∷ []) was1 .1 .1 .0, (LL.owed tRuntime.the-type tRuntime′.the-laws h₀ (vRuntime h₀ ∷ []) was1 .1 .1 .1 .0, (LL.owed tRuntime.the-type tRuntime′.the-laws h₀ (vRuntime h₀ ∷ []) was1 .1 .1 .1 .1 .0, (LL.owed tRuntime.the-type tRuntime′.the-laws h₀ (vRuntime h₀ ∷ []) was1 .1 .1 .1 .1 .1 .0, (LL.owed tRuntime.the-type tRuntime′.the-laws h₀ (vRuntime h₀ ∷ []) was1 .1 .1 .1 .1 .1 .1 .0, (LL.owed tRuntime.the-type tRuntime′.the-laws h₀ (vRuntime h₀ ∷ []) was1 .1 .1 .1 .1 .1 .1 .1 .0, (LL.owed tRuntime.the-type tRuntime′.the-laws h₀ (vRuntime h₀ ∷ []) was1 .1 .1 .1 .1 .1 .1 .1 .1 .0, (LL.owed tRuntime.the-type tRuntime′.the-laws h₀ (vRuntime h₀ ∷ []) was1 .1 .1 .1 .1 .1 .1 .1 .1 .1 .0, (LL.owed tRuntime.the-type tRuntime′.the-laws h₀ (vRuntime h₀ ∷ []) was1 .1 .1 .1 .1 .1 .1 .1 .1 .1 .1 .0, (LL.owed tRuntime.the-type tRuntime′.the-laws h₀ (vRuntime h₀ ∷ []) was1 .1 .1 .1 .1 .1 .1 .1 .1 .1 .1 .1 .0, (LL.owed tRuntime.the-type tRuntime′.the-laws h₀ (vRuntime h₀ ∷ []) was1 .1 .1 .1 .1 .1 .1 .1 .1 .1 .1 .1 .1 .0, (LL.owed tRuntime.the-type tRuntime′.the-laws h₀ (vRuntime h₀ ∷ []) was1 .1 .1 .1 .1 .1 .1 .1 .1 .1 .1 .1 .1 .1 .0, (LL.owed tRuntime.the-type tRuntime′.the-laws h₀ (vRuntime h₀ ∷ []) was1 .1 .1 .1 .1 .1 .1 .1 .1 .1 .1 .1 .1 .1 .1 .0, (LL.owed tRuntime.the-type tRuntime′.the-laws h₀ (vRuntime h₀ ∷ []) was1 .1 .1 .1 .1 .1 .1 .1 .1 .1 .1 .1 .1 .1 .1 .1 .0, (LL.owed tRuntime.the-type tRuntime′.the-laws h₀ (vRuntime h₀ ∷ []) was1 .1 .1 .1 .1 .1 .1 .1 .1 .1 .1 .1 .1 .1 .1 .1 .1 .0, (LL.owed tRuntime.the-type tRuntime′.the-laws h₀ (vRuntime h₀ ∷ []) was1 .1 .1 .1 .1 .1 .1 .1 .1 .1 .1 .1 .1 .1 .1 .1 .1 .1 .0, (LL.owed tRuntime.the-type tRuntime′.the-laws h₀ (vRuntime h₀ ∷ []) was1 .1 .1 .1 .1 .1 .1 .1 .1 .1 .1 .1 .1 .1 .1 .1 .1 .1 .1 .0, (LL.owed tRuntime.the-type tRuntime′.the-laws h₀ (vRuntime h₀ ∷ []) was1 .1 .1 .1 .1 .1 .1 .1 .1 .1 .1 .1 .1 .1 .1 .1 .1 .1 .1 .1 .0, (table-at tReceipt.the-field tReceipt′.the-field-laws 65 (h₀ .slots) (LL.owed tRuntime.the-type tRuntime′.the-laws h₀ (vRuntime h₀ ∷ []) was1 .1 .1 .1 .1 .1 .1 .1 .1 .1 .1 .1 .1 .1 .1 .1 .1 .1 .1 .1 .1 .1 .0) (h₀ .slot) noReceipt (good .kept .placed .slot), (LL.owed tRuntime.the-type tRuntime′.the-laws h₀ (vRuntime h₀ ∷ []) was1 .1 .1 .1 .1 .1 .1 .1 .1 .1 .1 .1 .1 .1 .1 .1 .1 .1 .1 .1 .1 .1 .0, tt))))))))))))))))))))))) $ move ! (1 ∷ 0 ∷ []) $ closes ! tt tRuntime.the-row (left1 v1 r1) (vRuntime (left1 v1 r1) ∷ []) blk off $
           passes-on ! tt tRuntime.the-row (left1 v1 r1) blk off (λ ν2 γ2. use2 W (raw (Call2 .pre (to2 v1 r1 ν2 γ2))) (goes2 v1 r1 ν2 γ2 (is-of1 r1 v1 is1) ((trips-order h₀ reason r1 good (e1 .1 (lit< tt))) .falling)) $
           calls-at ! fm Call2 known-follow (to2 v1 r1 ν2 γ2) (and-then ! (load ! (from ! (stop !)) (look ! 2 refl)) (and-then ! (load ! (from ! (stop !)) (look ! 14 refl)) (no-more !))) (λ v2.
           use1 W (later (some (λ (r2 : Answer). ((‵ (flft (ν2 ∷ []) fullShare) ⊛ ‵ ftrue) ⊛ ‵ (tAnswer.the-row .own r2 (v2 ∷ []))) ⊛ some (λ (zs2 : Runtime × (Unit {0} × Unit {0})). ‵ (lasts c-follow.ended (ν2 ∷ [], tt) (given2 v1 r1 γ2) zs2) ⊛ raw (fact 𝓤 (Leaves (followedIn r1 (left1 v1 r1)) (r1 .answer) (zs2 .0) r2)))))) (id⊢ 𝓤 _) $ await ! tt $ pick ! (λ r2.

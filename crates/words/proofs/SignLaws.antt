@@ -11,8 +11,7 @@ use lib.Signed.{leZ, nonNeg, mag}
 use mir.Facts.{toZ-ofZ, toZ-pos}
 use mir.Syntax.{w32}
 use mir.Val.{SFits, Fits, toZ, ofZ}
-use Rattle.format.specs.Decode.{signed}
-use Rattle.format.specs.Encode.{unsigned}
+use Rattle.words.specs.Signs.{signed, unsigned}
 
 -- -1 - m
 below : (m : ℕ) → negsuc 0 -ℤ pos m ≡ negsuc m

@@ -1,10 +1,10 @@
 use mathlib.Core.Path.{ap, _∙_}
 use mir.Facts.{toZ-ofZ}
 use mir.Syntax.{w32}
-use Rattle.format.specs.Encode.{unsigned}
+use Rattle.words.specs.Signs.{unsigned}
 use borrow.Author.Needs.{needs}
-use Rattle.format.proofs.unsigned.Statement.{statement}
-use Rattle.format.proofs.unsigned.Tie as tie
+use Rattle.words.proofs.unsigned.Statement.{statement}
+use Rattle.words.proofs.unsigned.Tie as tie
 
 bits-of-requires : tie.Need-bits-of-requires
 bits-of-requires c κs = search needs

@@ -1,7 +1,7 @@
-use Rattle.format.proofs.SignLaws.{signed-low, high-fits, signed-high}
+use Rattle.words.proofs.SignLaws.{signed-low, high-fits, signed-high}
 use borrow.Author.Needs.{needs}
-use Rattle.format.proofs.signed.Statement.{statement}
-use Rattle.format.proofs.signed.Tie as tie
+use Rattle.words.proofs.signed.Statement.{statement}
+use Rattle.words.proofs.signed.Tie as tie
 
 cast-result : tie.Need-cast-result
 cast-result c = search needs

@@ -1,7 +1,7 @@
 use borrow.Author.Needs.{needs}
-use Rattle.format.proofs.SignLaws.{low-fits, unsigned-low, flip-fits, flip-cast, flip-below, unsigned-high}
-use Rattle.format.proofs.bits_of.Statement.{statement}
-use Rattle.format.proofs.bits_of.Tie as tie
+use Rattle.words.proofs.SignLaws.{low-fits, unsigned-low, flip-fits, flip-cast, flip-below, unsigned-high}
+use Rattle.words.proofs.bits_of.Statement.{statement}
+use Rattle.words.proofs.bits_of.Tie as tie
 
 cast-result : tie.Need-cast-result
 cast-result c = low-fits (c .before .args .value) (search needs) (c .if1 .taken)
