@@ -24,8 +24,9 @@ use Rattle.rules.specs.Interaction.{Refused}
 use Rattle.state.specs.State.{outputOf}
 use Rattle.state.specs.declared.Answer.{Answer}
 use Rattle.state.specs.declared.Answer.the-variants as Answer
-use Rattle.format.specs.Decode.{Record, Feeds, Malformed, word, requestOf, submissionOf, turnOf, recordOf, checkedKind, decode}
+use Rattle.format.specs.Decode.{Record, Feeds, Malformed, word, requestOf, submissionOf, turnOf, readingOf, recordOf, checkedKind, decode}
 use Rattle.format.specs.Kinds.{kindAt, lookup, kinds, turnLimits, limitsOf, within}
+use Rattle.format.specs.declared.ReadingKind.{ReadingKind}
 use Rattle.format.specs.declared.RecordKind.{RecordKind}
 use Rattle.format.specs.declared.RecordKind.the-variants as Kind
 use Rattle.format.specs.declared.TurnKind.{TurnKind}
@@ -38,9 +39,11 @@ use Rattle.runtime.specs.Runtimes.{stateIn}
 use Rattle.runtime.specs.Stages.{RuntimeSound}
 use Rattle.layout.specs.Layout.{runtimeIn}
 use Rattle.host_calls.specs.Calls.{Steps}
-use Rattle.host_records.specs.Standings.{Goes}
+use Rattle.host_records.specs.declared.Taken.{Taken}
+use Rattle.host_records.specs.declared.Taken.the-variants as Taken
+use Rattle.host_records.specs.Standings.{Says, Takes}
 use Rattle.host_records.proofs.Answers.{seen-as, fedOr, isFed}
-use Rattle.host.specs.Host.{version, faultOf, lackOf, faultAt, numberOf, recordWith, observedWith, asked, isKnown, itemOutput, shownOutput, Served, Asks, Writes, Tells, ShowsOf, Refusal, Records}
+use Rattle.host.specs.Host.{version, faultOf, lackOf, faultAt, numberOf, recordWith, observedWith, asked, isKnown, itemOutput, shownOutput, Served, Asks, Writes, TellsOf, Tells, ShowsOf, Refusal, Records}
 
 -- what the tests decide ---------------------------------------------------------------------------------------------------
 
@@ -292,6 +295,19 @@ module _ {w out out′ : List ℕ} {n r : ℕ} {x : Output} (e : n ≡ lackOf w 
   pub tells : (ws : List ℕ) → n ≡ 0 → Writes out out′ r ws → (RuntimeSound (runtimeIn w) → ws ≡ encode x) → Tells w out out′ r x
   tells ws z s q = record { refused = λ ne. absurd (ne (sym e ∙ z)); told = λ _. record { words = ws; writes = s; says = q } }
 
+-- .. what a record did
+pub told-of : {w ws v u out out′ : List ℕ} {d : Taken} {r : ℕ} → v ≡ ws → Writes out out′ r u → Says w d v u → TellsOf w d ws out out′ r
+told-of {w} {u = u} {d = d} e s q = record { words = u; writes = s; says = subst (λ (x : List ℕ). Says w d x u) e q }
+
+pub taken-so : {w w′ ws v : List ℕ} {d : Taken} → v ≡ ws → Takes w w′ d v (decode v) → Takes w w′ d ws (decode ws)
+taken-so {w} {w′} {d = d} e k = subst (λ (x : List ℕ). Takes w w′ d x (decode x)) e k
+
+-- .. a reading
+pub tells-read : {w out out′ : List ℕ} {n r : ℕ} {kind : ReadingKind} (ws : List ℕ) → n ≡ lackOf w out → n ≡ 0 → TellsOf w (Taken.Read kind) ws out out′ r
+    → ShowsOf w out out′ r (readingOf kind ws)
+unfolding Says
+tells-read ws e z t = tells e (t .words) z (t .writes) (t .says)
+
 pub item-said : (x : Option Item) → shownOutput (shownItem x) ≡ itemOutput x
 unfolding shownItem
 item-said none = refl
@@ -306,11 +322,11 @@ module _ {w w′ f out out′ : List ℕ} {n r : ℕ} (e : n ≡ faultAt w f out
   pub records-fault : (n ≡ 0 → ⊥) → r ≡ n → w′ ≡ w → out′ ≡ out → Records w w′ f out out′ r
   records-fault ne q s t = record { refused = λ _. ((q ∙ e, s), t); stepped = λ z. absurd (ne (e ∙ z)) }
 
-  pub records : (ws v : List ℕ) → n ≡ 0 → Writes out out′ r ws → v ≡ part f 0 16 → Goes w w′ ws (decode v) → Records w w′ f out out′ r
-  records ws v z s is g =
+  pub records : {d : Taken} → n ≡ 0 → Takes w w′ d (part f 0 16) (decode (part f 0 16)) → TellsOf w′ d (part f 0 16) out out′ r → Records w w′ f out out′ r
+  records z k t =
       record {
         refused = λ ne. absurd (ne (sym e ∙ z));
-        stepped = λ _. record { words = ws; writes = s; goes = subst (λ (l : List ℕ). Goes w w′ ws (decode l)) is g };
+        stepped = λ _. record { words = t .words; writes = t .writes; goes = k .goes (t .words) (t .says) };
       }
 
 -- the reason of a refusal ------------------------------------------------------------------------------------------------

@@ -31,7 +31,8 @@ use Rattle.runtime.specs.Runtimes.{stateIn}
 use Rattle.runtime.specs.Stages.{phaseIn, RuntimeSound, Moves}
 use Rattle.layout.specs.Layout.{size, runtimeIn, listingIn}
 use Rattle.host_calls.specs.Calls.{Steps}
-use Rattle.host_records.specs.Standings.{Goes}
+use Rattle.host_records.specs.declared.Taken.{Taken}
+use Rattle.host_records.specs.Standings.{Says, Goes}
 
 -- the words --------------------------------------------------------------------------------------------------------------
 
@@ -186,6 +187,12 @@ pub record Writes (out out′ : List ℕ) (r : ℕ) (ws : List ℕ) : Type 0 whe
   pub words : out′ ≡ put out 0 ws
   pub room : length ws ≡ 26
   pub kind : r ≡ word ws 0 % 4294967296
+
+-- .. the words of what a record did
+pub record TellsOf (w : List ℕ) (d : Taken) (ws out out′ : List ℕ) (r : ℕ) : Type 0 where
+  pub words : List ℕ
+  pub writes : Writes out out′ r words
+  pub says : Says w d ws words
 
 pub record Told (w out out′ : List ℕ) (r : ℕ) (x : Output) : Type 0 where
   pub words : List ℕ

@@ -37,9 +37,10 @@ use host_readings::answered_lease;
 use host_readings::answered_receipt;
 use host_readings::item;
 use host_readings::refusal;
+use host_records::Taken;
 use host_records::presence_if;
-use host_records::reading_words;
-use host_records::step;
+use host_records::take;
+use host_records::taken_words;
 use host_start::clear;
 use host_start::list;
 use host_start::new;
@@ -53,11 +54,13 @@ ghost use lib.Dec.{eqb};
 ghost use lib.ListN.{length};
 ghost use Rattle.rules.specs.Protocol.{Calls, Tick, UpdateState, EmergencyStop, PollEstop, RecoverLocal, Renew, Cancel, Replies, Observed as ObservedReply, Executed as ExecutedReply, FellBack as FellBackReply, Recorded as RecordedReply, awaitedIn, ReadState, ReadEpoch, ReadBootId, ReadFlags, ReadReceiptCount, ReadConfig, ReadSnapshot, ReadLease, ReadCapability, ReadReceipt};
 ghost use Rattle.state.specs.declared.Answer.the-variants as Answered;
-ghost use Rattle.format.specs.Decode.{Feeds, checkedKind, readingOf};
+ghost use Rattle.cells.specs.Cells.{part};
+ghost use Rattle.format.specs.Decode.{Feeds, checkedKind, readingOf, decode};
 ghost use Rattle.format.specs.Encode.{encode};
 ghost use Rattle.runtime.specs.Stages.{phaseIn};
 ghost use Rattle.layout.specs.Layout.{Long, runtimeIn};
-ghost use Rattle.host.specs.Host.{faultOf, lackOf, faultAt, numberOf, recordWith, isKnown, areRead, areAsked, asked, renewalWith, observedWith, readingWith, ListsAll, Asks, Begins, Wipes, Writes, Tells, ShowsOf, SpeaksOf, itemOutput, shownOutput, Refusal, Records};
+ghost use Rattle.host_records.specs.Standings.{Takes};
+ghost use Rattle.host.specs.Host.{faultOf, lackOf, faultAt, numberOf, recordWith, isKnown, areRead, areAsked, asked, renewalWith, observedWith, readingWith, ListsAll, Asks, Begins, Wipes, Writes, TellsOf, Tells, ShowsOf, SpeaksOf, itemOutput, shownOutput, Refusal, Records};
 
 // The letters ROLTHAI, then the version.
 const FIRST: u64 = 0x524f_4c54_4841_4901;
@@ -633,6 +636,16 @@ pub extern "C" fn rolthai_refusal(state: &[u64]) -> u32
     reason.number() as u32
 }
 
+// records ----------------------------------------------------------------------------------------------------------------
+
+// A record's answer in words, the first of `out`, and its kind.
+fn tell(state: &[u64], taken: Taken, words: &[u64], out: &mut [u64]) -> u32
+    requires { ⌜ Long (now state) × (16 ≤ length (now words)) × (26 ≤ length (now out)) ⌝ }
+    ensures { λ r. ⌜ TellsOf (now (state .entry)) taken (part (now (words .entry)) 0 16) (now (out .entry)) (now (out .exit)) r ⌝ }
+{
+    give(out, taken_words(state, taken, read16(words, 0)))
+}
+
 // readings ---------------------------------------------------------------------------------------------------------------
 
 fn read(state: &[u64], out: &mut [u64], kind: ReadingKind, argument: u64) -> u32
@@ -643,7 +656,7 @@ fn read(state: &[u64], out: &mut [u64], kind: ReadingKind, argument: u64) -> u32
         return lack;
     }
     let words = [0, argument, 0, 0, 0, 0, 0, 0, 0, 0, 0, 0, 0, 0, 0, 0];
-    give(out, reading_words(state, kind, words))
+    tell(state, Taken::Read(kind), &words, out)
 }
 
 #[no_mangle]
@@ -716,7 +729,7 @@ pub extern "C" fn rolthai_receipt(state: &[u64], index: u64, out: &mut [u64]) ->
     read(state, out, ReadingKind::ReceiptAt, index)
 }
 
-// records ----------------------------------------------------------------------------------------------------------------
+// one record -------------------------------------------------------------------------------------------------------------
 
 fn fault_at(state: &[u64], words: &[u64], out: &[u64]) -> u32
     ensures { λ r. ⌜ r ≡ faultAt (now (state .entry)) (now (words .entry)) (now (out .entry)) ⌝ }
@@ -731,6 +744,14 @@ fn fault_at(state: &[u64], words: &[u64], out: &[u64]) -> u32
     0
 }
 
+// In a function of its own, so that the words of the record take stack only in it.
+fn taken(state: &mut [u64], words: &[u64]) -> Taken
+    requires { ⌜ Long (now state) × (16 ≤ length (now words)) ⌝ }
+    ensures { λ r. ⌜ Takes (now (state .entry)) (now (state .exit)) r (part (now (words .entry)) 0 16) (decode (part (now (words .entry)) 0 16)) ⌝ }
+{
+    take(state, read16(words, 0))
+}
+
 // One record of docs/WIRE.md: 16 words in, 26 out.
 #[no_mangle]
 pub extern "C" fn rolthai_step(state: &mut [u64], words: &[u64], out: &mut [u64]) -> u32
@@ -740,6 +761,6 @@ pub extern "C" fn rolthai_step(state: &mut [u64], words: &[u64], out: &mut [u64]
     if fault != 0 {
         return fault;
     }
-    let answer = step(state, read16(words, 0));
-    give(out, answer)
+    let did = taken(state, words);
+    tell(state, did, words, out)
 }

@@ -17,6 +17,7 @@ use host_replies::observed_on;
 use host_replies::recorded_on;
 use host_steps::begin;
 use host_steps::cancel_on;
+use host_steps::conclude;
 use host_steps::poll;
 use host_steps::run;
 use host_steps::stop;
@@ -66,7 +67,8 @@ fn tick_on(state: &mut [u64], time: u64) -> Answer
         Begun::Quiet => Answer::Returned,
         Begun::Busy => {
             put_pending(state, asking(CallKind::Tick, 0, time, 0, 0));
-            supervise(state, time)
+            let onward = supervise(state, time);
+            conclude(state, onward)
         }
     }
 }
@@ -184,7 +186,8 @@ fn begin_cancel(state: &mut [u64], owner: u64, lease: u64, time: u64) -> Answer
         Begun::Quiet => cancel_on(state, owner, lease, time),
         Begun::Busy => {
             put_pending(state, asking(CallKind::Cancel, 0, time, owner, lease));
-            supervise(state, time)
+            let onward = supervise(state, time);
+            conclude(state, onward)
         }
     }
 }

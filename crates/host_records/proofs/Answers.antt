@@ -30,7 +30,8 @@ use Rattle.state.specs.declared.Waiting.{Waiting}
 use Rattle.decide_reply.specs.Replies.{observationIf}
 use Rattle.decide_start.specs.Starts.{Listing, startOn}
 use Rattle.decide_start.specs.declared.Listed.{Listed}
-use Rattle.format.specs.Decode.{Record, Lists, Starts, Feeds, Malformed, capabilityOf, turnOf, checkedKind, recordOf}
+use Rattle.format.specs.Decode.{Record, Lists, Starts, Feeds, Malformed, capabilityOf, turnOf, readingOf, checkedKind, recordOf}
+use Rattle.format.specs.declared.ReadingKind.{ReadingKind}
 use Rattle.format.specs.declared.RecordKind.{RecordKind}
 use Rattle.format.specs.declared.TurnKind.{TurnKind}
 use Rattle.format.specs.declared.TurnKind.the-variants as Turn
@@ -44,7 +45,9 @@ use Rattle.lives.proofs.Lent.{away}
 use Rattle.host_calls.specs.Calls.{Steps}
 use Rattle.host_start.specs.Starts.{ListsOne, Makes}
 use Rattle.host_records.specs.Records.{step, told, answerWords}
-use Rattle.host_records.specs.Standings.{ReadsAs, Answered, Goes}
+use Rattle.host_records.specs.Standings.{ReadsAs, Says, Answered, Goes, Takes}
+use Rattle.host_records.specs.declared.Taken.{Taken}
+use Rattle.host_records.specs.declared.Taken.the-variants as Taken
 
 -- items --------------------------------------------------------------------------------------------------------------------
 
@@ -141,7 +144,7 @@ answered e n m p =
       sound = m .sound;
     }
 
-pub goes-fed : {w w′ r : List ℕ} {answer : Answer} {i : Input} → Steps w w′ answer i → isReading i ≡ false
+goes-fed : {w w′ r : List ℕ} {answer : Answer} {i : Input} → Steps w w′ answer i → isReading i ≡ false
     → (RuntimeSound (runtimeIn w′) → r ≡ encode (outputOf answer (stateIn (runtimeIn w′)))) → Goes w w′ r (Feeds i)
 unfolding step
 goes-fed {w} {w′} {answer = answer} {i = i} s turns e =
@@ -172,7 +175,7 @@ pub listing-there : (w : List ℕ) → Listing (listingIn w) (take (listingIn w 
 unfolding listingIn
 listing-there w = some-listing (listingIn w) (length-table capabilityOf w 2221 14 17) (below-less 18 _ (omega arith))
 
-pub goes-begun : {w w′ r : List ℕ} {answer : Answer} {config config′ : Config} (boot time : ℕ) {flags flags′ : ℕ}
+goes-begun : {w w′ r : List ℕ} {answer : Answer} {config config′ : Config} (boot time : ℕ) {flags flags′ : ℕ}
     → ((l : List Capability) → Listing (listingIn w) l → Makes w w′ answer (Protocol.start (startOn config l boot time flags)))
     → (RuntimeSound (runtimeIn w′) → r ≡ encode (outputOf answer (stateIn (runtimeIn w′)))) → config ≡ config′ → flags ≡ flags′
     → Goes w w′ r (Starts config′ boot time flags′)
@@ -188,7 +191,7 @@ goes-begun {w} boot time m e f g =
       answers = λ k x h. let made = m (x .listed) (h .listing) in answered e (made .listed) (made .moves) (rw (f, g));
     }
 
-pub goes-listed : {w w′ r : List ℕ} {c : Capability} → ListsOne c w w′ → r ≡ padded 1 0 [] → Goes w w′ r (Lists c)
+goes-listed : {w w′ r : List ℕ} {c : Capability} → ListsOne c w w′ → r ≡ padded 1 0 [] → Goes w w′ r (Lists c)
 unfolding step answerWords
 goes-listed m e =
     record {
@@ -206,7 +209,7 @@ goes-listed m e =
           };
     }
 
-pub goes-shown : {w r : List ℕ} {q : Reading} → (RuntimeSound (runtimeIn w) → ReadsAs w r q) → Goes w w r (Feeds (Reads q))
+goes-shown : {w r : List ℕ} {q : Reading} → (RuntimeSound (runtimeIn w) → ReadsAs w r q) → Goes w w r (Feeds (Reads q))
 unfolding step told answerWords react apply effect
 goes-shown {w} {r} {q} e =
     record {
@@ -224,7 +227,7 @@ goes-shown {w} {r} {q} e =
           };
     }
 
-pub goes-unread : {w r : List ℕ} → r ≡ padded 64 0 [] → Goes w w r Malformed
+goes-unread : {w r : List ℕ} → r ≡ padded 64 0 [] → Goes w w r Malformed
 unfolding step answerWords
 goes-unread e =
     record {
@@ -236,7 +239,31 @@ goes-unread e =
       answers = λ k x h. record { words = e; stands = h; sound = k };
     }
 
+-- a record taken ------------------------------------------------------------------------------------------------------------
+
+pub takes-fed : {w w′ ws : List ℕ} {answer : Answer} {i : Input} → Steps w w′ answer i → isReading i ≡ false → Takes w w′ (Taken.Answered answer) ws (Feeds i)
+unfolding Says
+takes-fed s turns = record { long = s .same .long; goes = λ r e. goes-fed s turns e }
+
+pub takes-begun : {w w′ ws : List ℕ} {answer : Answer} {config config′ : Config} (boot time : ℕ) {flags flags′ : ℕ}
+    → ((l : List Capability) → Listing (listingIn w) l → Makes w w′ answer (Protocol.start (startOn config l boot time flags))) → config ≡ config′ → flags ≡ flags′
+    → Takes w w′ (Taken.Answered answer) ws (Starts config′ boot time flags′)
+unfolding Says
+takes-begun {w} boot time m f g = record { long = m _ (listing-there w) .long; goes = λ r e. goes-begun boot time m e f g }
+
+pub takes-listed : {w w′ ws : List ℕ} {c : Capability} → ListsOne c w w′ → Takes w w′ Taken.Listed ws (Lists c)
+unfolding Says answerWords
+takes-listed m = record { long = m .long; goes = λ r e. goes-listed m e }
+
+pub takes-shown : {w : List ℕ} (ws : List ℕ) (kind : ReadingKind) → Takes w w (Taken.Read kind) ws (Feeds (Reads (readingOf kind ws)))
+unfolding Says
+takes-shown ws kind = record { long = refl; goes = λ r e. goes-shown e }
+
+pub takes-unread : {w ws : List ℕ} → Takes w w Taken.Unread ws Malformed
+unfolding Says answerWords
+takes-unread = record { long = refl; goes = λ r e. goes-unread e }
+
 -- .. by its kind
-pub goes-of : {w w′ r : List ℕ} (ws : List ℕ) {k j : RecordKind} {y : Record} → k ≡ checkedKind ws → k ≡ j → y ≡ recordOf j ws → Goes w w′ r y
-    → Goes w w′ r (recordOf (checkedKind ws) ws)
-goes-of {w} {w′} {r} ws e f g h = subst (Goes w w′ r) (g ∙ ap (λ (i : RecordKind). recordOf i ws) (sym f ∙ e)) h
+pub takes-of : {w w′ : List ℕ} {d : Taken} (ws : List ℕ) {k j : RecordKind} {y : Record} → k ≡ checkedKind ws → k ≡ j → y ≡ recordOf j ws → Takes w w′ d ws y
+    → Takes w w′ d ws (recordOf (checkedKind ws) ws)
+takes-of {w} {w′} {d} ws e f g h = subst (Takes w w′ d ws) (g ∙ ap (λ (i : RecordKind). recordOf i ws) (sym f ∙ e)) h

@@ -77,17 +77,18 @@ use state::Awaited;
 ghost use mathlib.Core.Bool.{cond};
 ghost use mathlib.Core.Path.{_≡_};
 ghost use Rattle.model.specs.declared.Presence.the-variants.{Absent, Present};
-ghost use Rattle.rules.specs.Protocol.{Reads, OfLease};
+ghost use Rattle.rules.specs.Protocol.{OfLease};
 ghost use Rattle.state.specs.State.{leaseIn, itemOf, outputOf};
 ghost use Rattle.decide_read.specs.Shown.{numberSays, stateSays, configSays, snapshotSays, leaseSays, capabilitySays, receiptSays};
 ghost use Rattle.decide_reply.specs.Replies.{observationIn};
-ghost use Rattle.format.specs.Decode.{word, u32At, configOf, observedOf, turnOf, readingOf, Lists, Starts, Feeds, decode};
+ghost use Rattle.format.specs.Decode.{word, u32At, configOf, observedOf, turnOf, readingOf, Starts, decode};
 ghost use Rattle.format.specs.Encode.{encode, itemWords, valueWords};
 ghost use Rattle.runtime.specs.Runtimes.{stateIn};
 ghost use Rattle.runtime.specs.Stages.{RuntimeSound};
 ghost use Rattle.layout.specs.Layout.{Long, runtimeIn};
 ghost use Rattle.host_calls.specs.Calls.{Steps};
-ghost use Rattle.host_records.specs.Standings.{ReadsAs, capabilitySaid, receiptSaid, Goes};
+ghost use Rattle.host_records.specs.declared.Taken.the-variants.{Answered};
+ghost use Rattle.host_records.specs.Standings.{ReadsAs, capabilitySaid, receiptSaid, Says, Goes, Takes};
 
 // outputs ----------------------------------------------------------------------------------------------------------------
 
@@ -314,56 +315,63 @@ fn turn(state: &mut [u64], kind: TurnKind, words: [u64; 16]) -> Answer
     }
 }
 
-fn fed(state: &mut [u64], kind: TurnKind, words: [u64; 16]) -> [u64; 26]
-    requires { ⌜ Long (now state) ⌝ }
-    ensures { λ r. ⌜ Goes (now (state .entry)) (now (state .exit)) r (Feeds (turnOf kind words)) ⌝ }
-{
-    let answer = turn(state, kind, words);
-    answer_words(state, answer)
+// What a record did. The words of its answer are made once that is over, so that they take no stack beside it.
+pub enum Taken {
+    Listed,
+    Answered(Answer),
+    Read(ReadingKind),
+    Unread,
 }
 
 // A start takes what is listed, and leaves nothing of it.
-fn begun(state: &mut [u64], words: [u64; 16]) -> [u64; 26]
+fn begun(state: &mut [u64], words: [u64; 16]) -> Answer
     requires { ⌜ Long (now state) ⌝ }
-    ensures { λ r. ⌜ Goes (now (state .entry)) (now (state .exit)) r (Starts (configOf words) (word words 1) (word words 2) (u32At words 3)) ⌝ }
+    ensures { λ r. ⌜ Takes (now (state .entry)) (now (state .exit)) (Answered r) words (Starts (configOf words) (word words 1) (word words 2) (u32At words 3)) ⌝ }
 {
-    let answer = new(
+    new(
         state,
         config_of(words),
         words[1],
         words[2],
         as_u32(words[3]),
-    );
-    answer_words(state, answer)
+    )
 }
 
-// One more capability for the next start.
-fn listed(state: &mut [u64], capability: Capability) -> [u64; 26]
+// One record: where it leaves the words.
+pub fn take(state: &mut [u64], words: [u64; 16]) -> Taken
     requires { ⌜ Long (now state) ⌝ }
-    ensures { λ r. ⌜ Goes (now (state .entry)) (now (state .exit)) r (Lists capability) ⌝ }
+    ensures { λ r. ⌜ Takes (now (state .entry)) (now (state .exit)) r words (decode words) ⌝ }
 {
-    list(state, capability);
-    plain_words(1, 0)
+    let kind = kind_of(words);
+    match kind {
+        RecordKind::Capability => {
+            list(state, capability_of(words));
+            Taken::Listed
+        }
+        RecordKind::Start => Taken::Answered(begun(state, words)),
+        RecordKind::Turn(kind) => Taken::Answered(turn(state, kind, words)),
+        RecordKind::Reading(reading) => Taken::Read(reading),
+        RecordKind::Unknown => Taken::Unread,
+    }
 }
 
-fn shown(state: &mut [u64], kind: ReadingKind, words: [u64; 16]) -> [u64; 26]
+// .. and what it is answered.
+pub fn taken_words(state: &[u64], taken: Taken, words: [u64; 16]) -> [u64; 26]
     requires { ⌜ Long (now state) ⌝ }
-    ensures { λ r. ⌜ Goes (now (state .entry)) (now (state .exit)) r (Feeds (Reads (readingOf kind words))) ⌝ }
+    ensures { λ r. ⌜ Says (now (state .entry)) taken words r ⌝ }
 {
-    reading_words(state, kind, words)
+    match taken {
+        Taken::Listed => plain_words(1, 0),
+        Taken::Answered(answer) => answer_words(state, answer),
+        Taken::Read(reading) => reading_words(state, reading, words),
+        Taken::Unread => plain_words(64, 0),
+    }
 }
 
-// One record: what it is answered, and where it leaves the words.
 pub fn step(state: &mut [u64], words: [u64; 16]) -> [u64; 26]
     requires { ⌜ Long (now state) ⌝ }
     ensures { λ r. ⌜ Goes (now (state .entry)) (now (state .exit)) r (decode words) ⌝ }
 {
-    let kind = kind_of(words);
-    match kind {
-        RecordKind::Capability => listed(state, capability_of(words)),
-        RecordKind::Start => begun(state, words),
-        RecordKind::Turn(turn) => fed(state, turn, words),
-        RecordKind::Reading(reading) => shown(state, reading, words),
-        RecordKind::Unknown => plain_words(64, 0),
-    }
+    let taken = take(state, words);
+    taken_words(state, taken, words)
 }

@@ -24,10 +24,12 @@ use Rattle.decide_tick.proofs.Due.{isOver, none-due, refreshes}
 use Rattle.runtime.specs.declared.Runtime.{Runtime}
 use Rattle.runtime.specs.Promises.{Good, MovesIn}
 use Rattle.runtime.specs.Runtimes.{tablesIn, askedIn, stateIn, bookOn}
+use Rattle.host_steps.specs.declared.Onward.the-variants as Onward
+use Rattle.host_steps.specs.Onward.{Comes, ComesTo}
 use Rattle.layout.specs.Fields.{withNumbers, withWaiting}
 use Rattle.layout.specs.Layout.{runtimeIn, Becomes}
 use Rattle.layout.specs.Promises.{Goes}
-use Rattle.layout.proofs.Chains.{same-then, becomes-then, goes-by}
+use Rattle.layout.proofs.Chains.{becomes-then, goes-by}
 use Rattle.host_replies.specs.declared.Resuming.{Resuming}
 use Rattle.host_replies.specs.declared.Resuming.the-variants as Resuming
 use Rattle.host_replies.specs.Altered.{freshNumbers, refreshedIn, ResumesAs}
@@ -87,19 +89,8 @@ cancel-ends {w} p =
       good = refreshed-good (runtimeIn w) g;
     })
 
-pub expiries-end : {w w₁ w′ : List ℕ} {r : Answer} → Becomes w w₁ (refreshedIn (runtimeIn w))
-    → Goes w₁ w′ r (Good (runtimeIn w₁)) (proceed (afterTick (askedIn (runtimeIn w₁)) (bookOn (runtimeIn w₁))))
-    → Goes w w′ r (Good (runtimeIn w)) (proceed (tickEnd (askedIn (runtimeIn w)) (bookOn (runtimeIn w))))
-expiries-end {w} {w′ = w′} {r = r} p m =
-    let h = runtimeIn w in
-    record {
-      same = same-then (p .same) (m .same);
-      moves =
-          λ g.
-          subst (λ (b : Book). MovesIn (runtimeIn w′) r (proceed (afterTick (askedIn h) b))) (sym (book-refreshed h g))
-          (subst (λ (z : Runtime). MovesIn (runtimeIn w′) r (proceed (afterTick (askedIn z) (bookOn z)))) (p .stored)
-          (m .moves (subst Good (sym (p .stored)) (refreshed-good h g))));
-    }
+expiries-end : (h : Runtime) → Good h → proceed (afterTick (askedIn (refreshedIn h)) (bookOn (refreshedIn h))) ≡ proceed (tickEnd (askedIn h) (bookOn h))
+expiries-end h k = ap (λ (b : Book). proceed (afterTick (askedIn h) b)) (sym (book-refreshed h k))
 
 -- the way -----------------------------------------------------------------------------------------------------------------------
 
@@ -125,22 +116,30 @@ module _ (w : List ℕ) {falling : Falling} {revoked : Revoked} (way : Resuming)
   as-in = rw (fa, re) at m
 
   pub cancel-resumed : {w′ : List ℕ} {r : Answer} → way ≡ Resuming.Cancel → Goes w w′ r (Good (runtimeIn w)) (proceed (Done (refreshState (bookOn (runtimeIn w))) Succeeded))
-      → Goes w w′ r (Good (runtimeIn w)) (proceed (nextIn (runtimeIn w)))
-  unfolding ResumesAs
+      → ComesTo w w′ (Onward.Answers r) (Good (runtimeIn w)) (proceed (nextIn (runtimeIn w)))
+  unfolding ResumesAs Comes
   cancel-resumed {w′} {r} v l =
       let h = runtimeIn w in
       let k : (h .falling .after ≡ AfterFallback.Cancel) × (h .revoked .ok ≡ true) = subst (λ (x : Resuming). ResumesAs x (h .falling .after) (h .revoked .ok)) v as-in in
-      subst (λ (i : Interaction). Goes w w′ r (Good h) (proceed i)) (sym (next-cancel h (k .0) (k .1))) l
+      record {
+        same = l .same;
+        comes = λ g. subst (λ (i : Interaction). MovesIn (runtimeIn w′) r (proceed i)) (sym (next-cancel h (k .0) (k .1))) (l .moves g);
+      }
 
-  pub expiry-resumed : {w′ : List ℕ} {r : Answer} → way ≡ Resuming.Expiry → (next : ℕ)
+  pub expiry-resumed : {w′ : List ℕ} → way ≡ Resuming.Expiry → (next : ℕ)
       → (Good (runtimeIn w) → next ≡ firstDue (falling .time) (tablesIn (runtimeIn w) .leases) (tablesIn (runtimeIn w) .active) (falling .axis + 1)) → 8 ≤ next
-      → Goes w w′ r (Good (runtimeIn w)) (proceed (tickEnd (askedIn (runtimeIn w)) (bookOn (runtimeIn w))))
-      → Goes w w′ r (Good (runtimeIn w)) (proceed (nextIn (runtimeIn w)))
-  unfolding ResumesAs
-  expiry-resumed {w′} {r} v next look high l =
+      → Becomes w w′ (refreshedIn (runtimeIn w)) → ComesTo w w′ Onward.GoesOn (Good (runtimeIn w)) (proceed (nextIn (runtimeIn w)))
+  unfolding ResumesAs Comes
+  expiry-resumed {w′} v next look high p =
       let h = runtimeIn w in
       let k : (h .falling .after ≡ AfterFallback.Expiry) × (h .revoked .ok ≡ true) = subst (λ (x : Resuming). ResumesAs x (h .falling .after) (h .revoked .ok)) v as-in in
       record {
-        same = l .same;
-        moves = λ g. subst (λ (i : Interaction). MovesIn (runtimeIn w′) r (proceed i)) (sym (next-expiry h next (k .0) (k .1) ((rw fa at look) g) high)) (l .moves g);
+        same = p .same;
+        comes =
+            λ g. (
+              subst Good (sym (p .stored)) (refreshed-good h g),
+              ap (λ (z : Runtime). proceed (afterTick (askedIn z) (bookOn z))) (p .stored)
+                  ∙ expiries-end h g
+                  ∙ ap proceed (sym (next-expiry h next (k .0) (k .1) ((rw fa at look) g) high)),
+            );
       }

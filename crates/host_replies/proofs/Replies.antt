@@ -53,7 +53,10 @@ use Rattle.runtime.specs.Promises.{Kept, Good, MovesIn, TurnsIn, Leaves, Places
 use Rattle.runtime.specs.Runtimes.{tablesIn, askedIn, orderIn, handIn, stateIn, bookOn}
 use Rattle.runtime.proofs.Alters.{submitting-good, trips-order}
 use Rattle.runtime.proofs.Courses.{followed-moves}
-use Rattle.runtime.proofs.Onward.{left-good, resumes, resumed-leads}
+use Rattle.runtime.proofs.Onward.{left-good, resumed-leads}
+use Rattle.host_steps.specs.declared.Onward.the-variants as Onward
+use Rattle.host_steps.specs.Onward.{Comes, ComesTo}
+use Rattle.host_steps.proofs.Courses.{followed-after}
 use Rattle.runtime.proofs.Replies.{telling-kept, tells, fails, finishing-kept, finishes}
 use Rattle.runtime.proofs.Turned.{isAway, away, observed-last, observed-completes, observed-fails, executed-observes, executed-fails, recorded-leased, recorded-submitted}
 use Rattle.rows.specs.Rows.{carryingOf, fallingOf}
@@ -191,24 +194,24 @@ module _ (w : List ℕ) {fixed : Fixed} {numbers : Numbers} {falling : Falling} 
     next-leads g = resumed-leads (runtimeIn w) s axis c g (rw fa at seeks) (rw (fa, n) at (look g)) (rw (f, n, fa, le, re) at says)
 
     module _ {w₁ : List ℕ} {r : Answer} (q : Follows c w w₁ r) (b : Bool) (e : b ≡ goesOn (c .way)) where
-      pub resumes-on : {w₂ : List ℕ} {r′ : Answer} → b ≡ true
-          → Goes w₁ w₂ r′ (Good (runtimeIn w₁)) (proceed (afterTick (askedIn (runtimeIn w₁)) (bookOn (runtimeIn w₁)))) → Goes w w₂ r′ (Good (runtimeIn w)) (proceed Next)
-      resumes-on {w₂} {r′} t m =
+      pub resumes-on : b ≡ true → ComesTo w w₁ Onward.GoesOn (Good (runtimeIn w)) (proceed Next)
+      unfolding Comes
+      resumes-on t =
           record {
-            same = same-then (q .same) (m .same);
-            moves =
+            same = q .same;
+            comes =
                 λ g.
                 let l = next-leads g in
                 let left = q .leaves (l .falling) in
-                resumes (runtimeIn w) c Next g l (runtimeIn w₁) r left (subst T (sym t ∙ e) tt) (runtimeIn w₂) r′
-                (m .moves (left-good (runtimeIn w) c Next g l (runtimeIn w₁) r left));
+                (left-good (runtimeIn w) c Next g l (runtimeIn w₁) r left, followed-after (runtimeIn w) c Next g l left (sym e ∙ t));
           }
 
-      pub ends-on : b ≡ false → Goes w w₁ r (Good (runtimeIn w)) (proceed Next)
+      pub ends-on : b ≡ false → ComesTo w w₁ (Onward.Answers r) (Good (runtimeIn w)) (proceed Next)
+      unfolding Comes
       ends-on t =
           record {
             same = q .same;
-            moves = λ g. let l = next-leads g in followed-moves (runtimeIn w) c Next g l (runtimeIn w₁) r (sym e ∙ t) (q .leaves (l .falling));
+            comes = λ g. let l = next-leads g in followed-moves (runtimeIn w) c Next g l (runtimeIn w₁) r (sym e ∙ t) (q .leaves (l .falling));
           }
 
 -- a reply ---------------------------------------------------------------------------------------------------------------------

@@ -18,7 +18,8 @@ use decide_reply::told;
 use decide_reply::unexecuted;
 use decide_resume::resumed;
 use decide_resume::search_after;
-use host_steps::go_on;
+use host_steps::Onward;
+use host_steps::conclude;
 use host_store::announce;
 use host_store::follow;
 use host_store::look_due;
@@ -66,7 +67,7 @@ ghost use mathlib.Core.Path.{_≡_};
 ghost use Rattle.rules.specs.Interaction.{Done, Submitted, Succeeded};
 ghost use Rattle.rules.specs.Protocol.{proceed, react, Replies, Observed as ObservedReply, Executed as ExecutedReply, FellBack as FellBackReply, Recorded as RecordedReply};
 ghost use Rattle.rules.specs.Rules.{trip as tripRule, fail as failRule, complete as completeRule, refreshState};
-ghost use Rattle.state.specs.State.{progressOf, tickEnd, afterFallback, afterFellBack, phaseOf};
+ghost use Rattle.state.specs.State.{progressOf, afterFallback, afterFellBack, phaseOf};
 ghost use Rattle.state.specs.declared.Answer.the-variants.{Item};
 ghost use Rattle.state.specs.declared.Awaited.the-variants.{ObserveAfter};
 ghost use Rattle.decide_reply.specs.Replies.{observationIn, seenBy, completing as completingWith};
@@ -74,6 +75,7 @@ ghost use Rattle.runtime.specs.Promises.{Good};
 ghost use Rattle.runtime.specs.Runtimes.{stateIn, tablesIn, askedIn, orderIn, handIn, bookOn};
 ghost use Rattle.layout.specs.Layout.{Long, runtimeIn, Becomes};
 ghost use Rattle.layout.specs.Promises.{Goes, Turns};
+ghost use Rattle.host_steps.specs.Onward.{ComesTo};
 ghost use Rattle.host_replies.specs.Altered.{executing, restedBy, freshNumbers, refreshedIn, ResumesAs};
 
 // The receipt of an order that failed.
@@ -193,19 +195,10 @@ fn end_cancel(state: &mut [u64]) -> Answer
     Answer::Succeeded
 }
 
-// The expiries are over, and the call in hand goes on.
-fn end_expiries(state: &mut [u64]) -> Answer
-    requires { ⌜ Long (now state) ⌝ }
-    ensures { λ r. ⌜ Goes (now (state .entry)) (now (state .exit)) r (Good (runtimeIn (now (state .entry)))) (proceed (tickEnd (askedIn (runtimeIn (now (state .entry)))) (bookOn (runtimeIn (now (state .entry)))))) ⌝ }
-{
-    refresh(state);
-    go_on(state)
-}
-
 // What follows the receipt of a fallback, any way of it: look, decide, follow.
-fn resume_on(state: &mut [u64]) -> Answer
+fn resume_on(state: &mut [u64]) -> Onward
     requires { ⌜ Long (now state) ⌝ }
-    ensures { λ r. ⌜ Goes (now (state .entry)) (now (state .exit)) r (Good (runtimeIn (now (state .entry)))) (proceed (afterFallback (runtimeIn (now (state .entry)) .falling) (tablesIn (runtimeIn (now (state .entry))) .capabilities) (askedIn (runtimeIn (now (state .entry)))) (runtimeIn (now (state .entry)) .revoked .ok) (bookOn (runtimeIn (now (state .entry)))))) ⌝ }
+    ensures { λ r. ⌜ ComesTo (now (state .entry)) (now (state .exit)) r (Good (runtimeIn (now (state .entry)))) (proceed (afterFallback (runtimeIn (now (state .entry)) .falling) (tablesIn (runtimeIn (now (state .entry))) .capabilities) (askedIn (runtimeIn (now (state .entry)))) (runtimeIn (now (state .entry)) .revoked .ok) (bookOn (runtimeIn (now (state .entry)))))) ⌝ }
 {
     let fixed = fixed_in(state);
     let numbers = numbers_in(state);
@@ -219,9 +212,9 @@ fn resume_on(state: &mut [u64]) -> Answer
     let way = course.way;
     let answer = follow(state, course);
     if is_going_on(way) {
-        return go_on(state);
+        return Onward::GoesOn;
     }
-    answer
+    Onward::Answers(answer)
 }
 
 // What follows a fallback: the end of a cancel or the next of the expiries, where it succeeded, or anything.
@@ -248,25 +241,33 @@ fn resumes_by(falling: Falling, ok: bool) -> Resuming
 }
 
 // What follows the receipt of a fallback, the way first: where no axis falls back next, nothing is looked up or stored for one.
-fn resume(state: &mut [u64]) -> Answer
+fn resume_way(state: &mut [u64]) -> Onward
     requires { ⌜ Long (now state) ⌝ }
-    ensures { λ r. ⌜ Goes (now (state .entry)) (now (state .exit)) r (Good (runtimeIn (now (state .entry)))) (proceed (afterFallback (runtimeIn (now (state .entry)) .falling) (tablesIn (runtimeIn (now (state .entry))) .capabilities) (askedIn (runtimeIn (now (state .entry)))) (runtimeIn (now (state .entry)) .revoked .ok) (bookOn (runtimeIn (now (state .entry)))))) ⌝ }
+    ensures { λ r. ⌜ ComesTo (now (state .entry)) (now (state .exit)) r (Good (runtimeIn (now (state .entry)))) (proceed (afterFallback (runtimeIn (now (state .entry)) .falling) (tablesIn (runtimeIn (now (state .entry))) .capabilities) (askedIn (runtimeIn (now (state .entry)))) (runtimeIn (now (state .entry)) .revoked .ok) (bookOn (runtimeIn (now (state .entry)))))) ⌝ }
 {
     let falling = falling_in(state);
     let revoked = revoked_in(state);
     let way = resumes_by(falling, revoked.ok);
     match way {
-        Resuming::Cancel => end_cancel(state),
+        Resuming::Cancel => Onward::Answers(end_cancel(state)),
         Resuming::Expiry => {
             let next = look_due(state, falling.axis + 1, falling.time);
             if next < 8 {
-                resume_on(state)
-            } else {
-                end_expiries(state)
+                return resume_on(state);
             }
+            refresh(state);
+            Onward::GoesOn
         }
         Resuming::Other => resume_on(state),
     }
+}
+
+fn resume(state: &mut [u64]) -> Answer
+    requires { ⌜ Long (now state) ⌝ }
+    ensures { λ r. ⌜ Goes (now (state .entry)) (now (state .exit)) r (Good (runtimeIn (now (state .entry)))) (proceed (afterFallback (runtimeIn (now (state .entry)) .falling) (tablesIn (runtimeIn (now (state .entry))) .capabilities) (askedIn (runtimeIn (now (state .entry)))) (runtimeIn (now (state .entry)) .revoked .ok) (bookOn (runtimeIn (now (state .entry)))))) ⌝ }
+{
+    let onward = resume_way(state);
+    conclude(state, onward)
 }
 
 // The order goes to the driver, with the state that was observed.

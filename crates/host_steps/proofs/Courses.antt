@@ -2,18 +2,19 @@
 use Prim.Native.Nat.{ℕ}
 use mathlib.Core.Bool.{Bool, true, false, not}
 use mathlib.Core.List.{List}
-use mathlib.Core.Path.{_≡_, sym, subst, _∙_}
+use mathlib.Core.Path.{_≡_, sym, ap, subst, _∙_}
 use lib.Dec.{T}
 use lib.ListN.{getD}
 use Rattle.model.specs.declared.LeaseSlot.{LeaseSlot}
 use Rattle.model.specs.Records.{noLease}
 use Rattle.rules.specs.Admission.{heldAxis, firstFailing, acquireChecks, renewChecks, validate}
+use Rattle.rules.specs.Book.{Book}
 use Rattle.rules.specs.Interaction.{Interaction, Done, Returned, Polled}
 use Rattle.rules.specs.Protocol.{Reaction, proceed}
 use Rattle.rules.specs.Rules.{emergencyStop, stopTime, recover, sense, canceled, tick, grant, renewed, admit}
 use Rattle.rules.specs.With.{withEstopSeen}
 use Rattle.state.specs.Axes.{firstForbidden, firstHeld, firstDue}
-use Rattle.state.specs.State.{Tables, bookOf, InBounds, afterTrip, afterTick}
+use Rattle.state.specs.State.{Asked, Tables, bookOf, InBounds, afterTrip, afterTick}
 use Rattle.state.specs.Stores.{awaiting, goesOn, Settles, Leads, Takes, TakesWhere}
 use Rattle.state.specs.declared.AfterTrip.the-variants as AfterTrip
 use Rattle.state.specs.declared.Answer.{Answer}
@@ -32,16 +33,20 @@ use Rattle.decide_tick.specs.declared.Begun.{Begun}
 use Rattle.decide_tick.specs.declared.Begun.the-variants.{Quiet, Busy}
 use Rattle.decide_tick.specs.declared.Opening.{Opening}
 use Rattle.runtime.specs.declared.Runtime.{Runtime}
-use Rattle.runtime.specs.Promises.{Good, SoonestIn, isQuiet, Begins, Tightens}
+use Rattle.runtime.specs.Kept.{followedIn}
+use Rattle.runtime.specs.Promises.{Good, MovesIn, Leaves, SoonestIn, isQuiet, Begins, Tightens}
 use Rattle.runtime.specs.Runtimes.{tablesIn, askedIn, askedAt, handIn, stateIn, bookOn}
-use Rattle.runtime.proofs.Courses.{followed-moves, stops}
+use Rattle.runtime.proofs.Courses.{followed-moves, followed-on, stops}
 use Rattle.runtime.proofs.Alters.{returned, senses-same, begins-quiet, begins-busy, tightens, timed, timed-good}
-use Rattle.runtime.proofs.Onward.{gone-tick, gone-sense, gone-recover, gone-acquire, gone-renew, gone-cancel, gone-submit, due-shown, left-good, supervises, ends-so, runs-quiet, runs-busy}
+use Rattle.runtime.proofs.Onward.{gone-tick, gone-sense, gone-recover, gone-acquire, gone-renew, gone-cancel, gone-submit, due-shown, left-good, ends-so, runs-quiet, runs-busy}
 use Rattle.layout.specs.Fields.{withNumbers, withWaiting, withPending}
 use Rattle.layout.specs.Layout.{runtimeIn, Becomes}
 use Rattle.layout.specs.Promises.{Goes}
 use Rattle.host_store.specs.Stores.{Follows}
+use Rattle.host_steps.specs.declared.Onward.{Onward}
+use Rattle.host_steps.specs.declared.Onward.the-variants as Onward
 use Rattle.host_steps.specs.Altered.{soonerAt, pendingAt, BeginsIn, TightensIn}
+use Rattle.host_steps.specs.Onward.{Comes, ComesTo, Concludes}
 use Rattle.layout.proofs.Chains.{same-words, same-then, becomes-then, goes-by}
 
 -- a test that was made
@@ -127,6 +132,15 @@ tightens-in {w} soonest s n x ex p =
       tightens = λ g. subst (Tightens (runtimeIn w)) (sym ((rw (ex, n) at p) .stored)) (tightens (runtimeIn w) soonest g (s g));
     }
 
+-- a call goes on in a runtime with the same book and the same call in hand
+goes-as : (h h′ : Runtime) → askedIn h′ ≡ askedIn h → bookOn h′ ≡ bookOn h → proceed (afterTick (askedIn h′) (bookOn h′)) ≡ proceed (afterTick (askedIn h) (bookOn h))
+goes-as h h′ e f = ap (λ (q : Asked). proceed (afterTick q (bookOn h′))) e ∙ ap (λ (b : Book). proceed (afterTick (askedIn h) b)) f
+
+-- a course that goes on with the call in hand
+pub followed-after : (h : Runtime) (c : Course) (i : Interaction) (k : Good h) (l : Leads c (stateIn h) i) {z : Runtime} {r : Answer}
+    → Leaves (followedIn c h) (c .answer) z r → goesOn (c .way) ≡ true → proceed (afterTick (askedIn z) (bookOn z)) ≡ proceed i
+followed-after h c i k l left e = ap (λ (x : Runtime). proceed (afterTick (askedIn x) (bookOn x))) (left .stored) ∙ followed-on h c i k l e
+
 -- the tick that is not quiet
 module _ (w : List ℕ) {u : List ℕ} {a : Answer} (fixed : Fixed) (numbers : Numbers) (falling : Falling) (axis : ℕ) (lease : LeaseSlot) (time : ℕ) (c : Course) {b : Bool}
     (f : fixed ≡ runtimeIn w .fixed) (n : numbers ≡ runtimeIn w .numbers) (l : falling ≡ runtimeIn w .falling)
@@ -142,23 +156,24 @@ module _ (w : List ℕ) {u : List ℕ} {a : Answer} (fixed : Fixed) (numbers : N
       (rw (f, n, l, s) at says) (g .sound .falling) (tablesIn (runtimeIn w)) (askedIn (runtimeIn w)) (handIn (runtimeIn w)) (g .sound)
       (due-shown (runtimeIn w) time 0 axis g (d g))
 
-  pub tick-ends : b ≡ false → Goes w u a (Good (runtimeIn w)) (proceed ticking)
+  pub tick-ends : b ≡ false → ComesTo w u (Onward.Answers a) (Good (runtimeIn w)) (proceed ticking)
+  unfolding Comes
   tick-ends t =
       record {
         same = left .same;
-        moves = λ g. ends-so (runtimeIn w) c ticking g (tick-leads g) (runtimeIn u) a (left .leaves (tick-leads g .falling)) (is-not (sym test ∙ t));
+        comes = λ g. ends-so (runtimeIn w) c ticking g (tick-leads g) (runtimeIn u) a (left .leaves (tick-leads g .falling)) (is-not (sym test ∙ t));
       }
 
-  pub tick-goes-on : {v w′ : List ℕ} {r : Answer} → b ≡ true → TightensIn u v
-      → Goes v w′ r (Good (runtimeIn v)) (proceed (afterTick (askedIn (runtimeIn v)) (bookOn (runtimeIn v)))) → Goes w w′ r (Good (runtimeIn w)) (proceed ticking)
-  tick-goes-on {v} {w′} {r} t y m =
+  pub tick-goes-on : {v : List ℕ} → b ≡ true → TightensIn u v → ComesTo w v Onward.GoesOn (Good (runtimeIn w)) (proceed ticking)
+  unfolding Comes
+  tick-goes-on {v} t y =
       record {
-        same = same-then (left .same) (same-then (y .same) (m .same));
-        moves =
+        same = same-then (left .same) (y .same);
+        comes =
             λ g.
             let there = left .leaves (tick-leads g .falling) in
             let exact = y .tightens (left-good (runtimeIn w) c ticking g (tick-leads g) (runtimeIn u) a there) in
-            supervises (runtimeIn w) c ticking g (tick-leads g) (runtimeIn u) a there (is-so (sym test ∙ t)) (runtimeIn v) (runtimeIn w′) r exact (m .moves (exact .good));
+            (exact .good, goes-as (runtimeIn u) (runtimeIn v) (exact .asked) (exact .book) ∙ followed-after (runtimeIn w) c ticking g (tick-leads g) there (sym test ∙ t));
       }
 
 -- the call in hand ------------------------------------------------------------------------------------------------------------
@@ -202,6 +217,24 @@ module _ {w w′ : List ℕ} {r : Answer} {pending : Pending} (e : pending ≡ r
       (proceed (admit (validate (runtimeIn w .submission) (bookOn (runtimeIn w))) (runtimeIn w .submission) (bookOn (runtimeIn w))))
       → Goes w w′ r (Good (runtimeIn w)) (after w)
   on-submit k l = record { same = l .same; moves = λ g. gone-submit (runtimeIn w) (runtimeIn w′) r (rw e at k) (l .moves g) }
+
+-- what is to come ---------------------------------------------------------------------------------------------------------------
+
+pub answers : {w : List ℕ} (n : Onward) (a : Answer) → n ≡ Onward.Answers a → Concludes w w n a
+unfolding Comes
+answers {w} n a e = record { same = same-words; moves = λ x m. rw e at m }
+
+pub goes : {w w′ : List ℕ} {r : Answer} (n : Onward) → n ≡ Onward.GoesOn → Goes w w′ r (Good (runtimeIn w)) (after w) → Concludes w w′ n r
+unfolding Comes
+goes {w} {w′} {r} n e l =
+    record {
+      same = l .same;
+      moves = λ x m. let k : Good (runtimeIn w) × (after w ≡ x) = rw e at m in subst (MovesIn (runtimeIn w′) r) (k .1) (l .moves (k .0));
+    }
+
+-- .. and done
+pub concluded : {w v w′ : List ℕ} {n : Onward} {r : Answer} {given : Type 0} {x : Reaction} → ComesTo w v n given x → Concludes v w′ n r → Goes w w′ r given x
+concluded {x = x} c d = record { same = same-then (c .same) (d .same); moves = λ g. d .moves x (c .comes g) }
 
 -- .. with its opening tick
 module _ {w u v : List ℕ} {pending : Pending} {g : Begun} (time : ℕ) (e : pending ≡ runtimeIn w .pending) (y : Pending) (ey : y ≡ pendingAt time pending)

@@ -91,6 +91,7 @@ ghost use Rattle.runtime.specs.Runtimes.{tablesIn, askedIn, askedAt, bookOn};
 ghost use Rattle.layout.specs.Layout.{Long, runtimeIn};
 ghost use Rattle.layout.specs.Promises.{Goes};
 ghost use Rattle.host_steps.specs.Altered.{lengthenedSlot, sequencedSlot, soonerAt, pendingAt, BeginsIn, TightensIn};
+ghost use Rattle.host_steps.specs.Onward.{ComesTo, Concludes};
 
 // flags ----------------------------------------------------------------------------------------------------------------
 // New flags.
@@ -473,7 +474,7 @@ fn tighten(state: &mut [u64])
 }
 
 // What the call in hand does after its opening tick.
-pub fn go_on(state: &mut [u64]) -> Answer
+fn go_on(state: &mut [u64]) -> Answer
     requires { ⌜ Long (now state) ⌝ }
     ensures { λ r. ⌜ Goes (now (state .entry)) (now (state .exit)) r (Good (runtimeIn (now (state .entry)))) (proceed (afterTick (askedIn (runtimeIn (now (state .entry)))) (bookOn (runtimeIn (now (state .entry)))))) ⌝ }
 {
@@ -493,10 +494,16 @@ pub fn go_on(state: &mut [u64]) -> Answer
     }
 }
 
+// What is to come: an answer, or what the call in hand does after its opening tick.
+pub enum Onward {
+    Answers(Answer),
+    GoesOn,
+}
+
 // The opening tick of the call in hand, where it is not quiet.
-pub fn supervise(state: &mut [u64], time: u64) -> Answer
+pub fn supervise(state: &mut [u64], time: u64) -> Onward
     requires { ⌜ Long (now state) ⌝ }
-    ensures { λ r. ⌜ Goes (now (state .entry)) (now (state .exit)) r (Good (runtimeIn (now (state .entry)))) (proceed (tickRule time (bookOn (runtimeIn (now (state .entry)))) (afterTick (askedIn (runtimeIn (now (state .entry))))))) ⌝ }
+    ensures { λ r. ⌜ ComesTo (now (state .entry)) (now (state .exit)) r (Good (runtimeIn (now (state .entry)))) (proceed (tickRule time (bookOn (runtimeIn (now (state .entry)))) (afterTick (askedIn (runtimeIn (now (state .entry))))))) ⌝ }
 {
     let fixed = fixed_in(state);
     let numbers = numbers_in(state);
@@ -508,9 +515,20 @@ pub fn supervise(state: &mut [u64], time: u64) -> Answer
     let answer = follow(state, course);
     if is_going_on(way) {
         tighten(state);
-        return go_on(state);
+        return Onward::GoesOn;
     }
-    answer
+    Onward::Answers(answer)
+}
+
+// What is to come, done: by those who had the tick or the fallback done, so that its stack is free again.
+pub fn conclude(state: &mut [u64], onward: Onward) -> Answer
+    requires { ⌜ Long (now state) ⌝ }
+    ensures { λ r. ⌜ Concludes (now (state .entry)) (now (state .exit)) onward r ⌝ }
+{
+    match onward {
+        Onward::Answers(answer) => answer,
+        Onward::GoesOn => go_on(state),
+    }
 }
 
 fn at_time(pending: Pending, time: u64) -> Pending
@@ -531,6 +549,9 @@ pub fn run(state: &mut [u64], time: u64) -> Answer
     let begun = begin(state, time);
     match begun {
         Begun::Quiet => go_on(state),
-        Begun::Busy => supervise(state, time),
+        Begun::Busy => {
+            let onward = supervise(state, time);
+            conclude(state, onward)
+        }
     }
 }

@@ -1,29 +1,21 @@
-use borrow.Author.Needs.{needs}
 use mathlib.Core.Path.{refl}
 use native.Mathlib.Omega.{arith}
 use Rattle.host.proofs.Lent.{at-enough, at-room, at-whole, records-fault, records}
+use borrow.Author.Needs.{needs}
 use Rattle.host.proofs.rolthai_step.Statement.{statement}
 use Rattle.host.proofs.rolthai_step.Tie as tie
 
 returns : tie.Need-returns
-returns c =
-    records-fault (c .before .fault-at .ensures) (c .if1 .taken) refl refl refl
+returns c = records-fault (c .before .fault-at .ensures) (c .if1 .taken) refl refl refl
 
-read16-requires : tie.Need-read16-requires
-read16-requires c κs =
-    let n = at-whole _ _ _ (c .before .before .fault-at .ensures) (c .before .if1 .left) in omega (arith, n)
+taken-requires : tie.Need-taken-requires
+taken-requires c κs = let e = c .before .before .fault-at .ensures in let z = c .before .if1 .left in let n = at-whole _ _ _ e z in (at-enough _ _ _ e z, omega (arith, n))
 
-step-requires : tie.Need-step-requires
-step-requires c κs =
-    at-enough _ _ _ (c .before .before .before .fault-at .ensures) (c .before .before .if1 .left)
-
-give-requires : tie.Need-give-requires
-give-requires c κs =
-    at-room _ _ _ (c .before .before .before .before .before .before .before .fault-at .ensures) (c .before .before .before .before .before .before .if1 .left)
+tell-requires : tie.Need-tell-requires
+tell-requires c κs = let e = c .before .before .before .before .before .before .before .fault-at .ensures in let z = c .before .before .before .before .before .before .if1 .left in let n = at-whole _ _ _ e z in let m = at-enough _ _ _ e z in (omega (arith, m, c .before .before .before .before .taken .ensures .long), omega (arith, n), at-room _ _ _ e z)
 
 returns-2 : tie.Need-returns-2
-returns-2 c =
-    records (c .before .before .before .before .before .before .before .before .before .before .fault-at .ensures) _ _ (c .before .before .before .before .before .before .before .before .before .if1 .left) (c .before .before .give .ensures) (c .before .before .before .before .before .before .before .read16 .ensures) (c .before .before .before .before .before .before .step .ensures)
+returns-2 c = records (c .before .before .before .before .before .before .before .before .before .before .fault-at .ensures) (c .before .before .before .before .before .before .before .before .before .if1 .left) (c .before .before .before .before .before .before .before .taken .ensures) (c .before .before .tell .ensures)
 
 pub rolthai-step-spec : {M : Type 1} → statement M
 rolthai-step-spec =
@@ -33,9 +25,8 @@ rolthai-step-spec =
     (λ c. search needs)
     (λ c. search needs)
     returns
-    read16-requires
-    step-requires
-    give-requires
+    taken-requires
+    tell-requires
     (λ c. search needs)
     (λ c. search needs)
     returns-2)
