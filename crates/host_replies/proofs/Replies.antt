@@ -53,10 +53,9 @@ use Rattle.runtime.specs.Promises.{Kept, Good, MovesIn, TurnsIn, Leaves, Places
 use Rattle.runtime.specs.Runtimes.{tablesIn, askedIn, orderIn, handIn, stateIn, bookOn}
 use Rattle.runtime.proofs.Alters.{submitting-good, trips-order}
 use Rattle.runtime.proofs.Courses.{followed-moves}
-use Rattle.runtime.proofs.Onward.{left-good, resumed-leads}
+use Rattle.runtime.proofs.Onward.{left-good, followed-after, resumed-leads}
 use Rattle.host_steps.specs.declared.Onward.the-variants as Onward
 use Rattle.host_steps.specs.Onward.{Comes, ComesTo}
-use Rattle.host_steps.proofs.Courses.{followed-after}
 use Rattle.runtime.proofs.Replies.{telling-kept, tells, fails, finishing-kept, finishes}
 use Rattle.runtime.proofs.Turned.{isAway, away, observed-last, observed-completes, observed-fails, executed-observes, executed-fails, recorded-leased, recorded-submitted}
 use Rattle.rows.specs.Rows.{carryingOf, fallingOf}
@@ -203,7 +202,7 @@ module _ (w : List ℕ) {fixed : Fixed} {numbers : Numbers} {falling : Falling} 
                 λ g.
                 let l = next-leads g in
                 let left = q .leaves (l .falling) in
-                (left-good (runtimeIn w) c Next g l (runtimeIn w₁) r left, followed-after (runtimeIn w) c Next g l left (sym e ∙ t));
+                (left-good (runtimeIn w) c Next g l (runtimeIn w₁) r left, followed-after (runtimeIn w) c Next g l (runtimeIn w₁) r left (sym e ∙ t));
           }
 
       pub ends-on : b ≡ false → ComesTo w w₁ (Onward.Answers r) (Good (runtimeIn w)) (proceed Next)

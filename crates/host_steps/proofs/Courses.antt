@@ -2,19 +2,18 @@
 use Prim.Native.Nat.{ℕ}
 use mathlib.Core.Bool.{Bool, true, false, not}
 use mathlib.Core.List.{List}
-use mathlib.Core.Path.{_≡_, sym, ap, subst, _∙_}
+use mathlib.Core.Path.{_≡_, sym, subst, _∙_}
 use lib.Dec.{T}
 use lib.ListN.{getD}
 use Rattle.model.specs.declared.LeaseSlot.{LeaseSlot}
 use Rattle.model.specs.Records.{noLease}
 use Rattle.rules.specs.Admission.{heldAxis, firstFailing, acquireChecks, renewChecks, validate}
-use Rattle.rules.specs.Book.{Book}
 use Rattle.rules.specs.Interaction.{Interaction, Done, Returned, Polled}
 use Rattle.rules.specs.Protocol.{Reaction, proceed}
 use Rattle.rules.specs.Rules.{emergencyStop, stopTime, recover, sense, canceled, tick, grant, renewed, admit}
 use Rattle.rules.specs.With.{withEstopSeen}
 use Rattle.state.specs.Axes.{firstForbidden, firstHeld, firstDue}
-use Rattle.state.specs.State.{Asked, Tables, bookOf, InBounds, afterTrip, afterTick}
+use Rattle.state.specs.State.{Tables, bookOf, InBounds, afterTrip, afterTick}
 use Rattle.state.specs.Stores.{awaiting, goesOn, Settles, Leads, Takes, TakesWhere}
 use Rattle.state.specs.declared.AfterTrip.the-variants as AfterTrip
 use Rattle.state.specs.declared.Answer.{Answer}
@@ -33,12 +32,11 @@ use Rattle.decide_tick.specs.declared.Begun.{Begun}
 use Rattle.decide_tick.specs.declared.Begun.the-variants.{Quiet, Busy}
 use Rattle.decide_tick.specs.declared.Opening.{Opening}
 use Rattle.runtime.specs.declared.Runtime.{Runtime}
-use Rattle.runtime.specs.Kept.{followedIn}
-use Rattle.runtime.specs.Promises.{Good, MovesIn, Leaves, SoonestIn, isQuiet, Begins, Tightens}
+use Rattle.runtime.specs.Promises.{Good, MovesIn, SoonestIn, isQuiet, Begins, Tightens}
 use Rattle.runtime.specs.Runtimes.{tablesIn, askedIn, askedAt, handIn, stateIn, bookOn}
-use Rattle.runtime.proofs.Courses.{followed-moves, followed-on, stops}
+use Rattle.runtime.proofs.Courses.{followed-moves, stops}
 use Rattle.runtime.proofs.Alters.{returned, senses-same, begins-quiet, begins-busy, tightens, timed, timed-good}
-use Rattle.runtime.proofs.Onward.{gone-tick, gone-sense, gone-recover, gone-acquire, gone-renew, gone-cancel, gone-submit, due-shown, left-good, ends-so, runs-quiet, runs-busy}
+use Rattle.runtime.proofs.Onward.{gone-tick, gone-sense, gone-recover, gone-acquire, gone-renew, gone-cancel, gone-submit, goes-as, due-shown, left-good, followed-after, ends-so, runs-quiet, runs-busy}
 use Rattle.layout.specs.Fields.{withNumbers, withWaiting, withPending}
 use Rattle.layout.specs.Layout.{runtimeIn, Becomes}
 use Rattle.layout.specs.Promises.{Goes}
@@ -132,15 +130,6 @@ tightens-in {w} soonest s n x ex p =
       tightens = λ g. subst (Tightens (runtimeIn w)) (sym ((rw (ex, n) at p) .stored)) (tightens (runtimeIn w) soonest g (s g));
     }
 
--- a call goes on in a runtime with the same book and the same call in hand
-goes-as : (h h′ : Runtime) → askedIn h′ ≡ askedIn h → bookOn h′ ≡ bookOn h → proceed (afterTick (askedIn h′) (bookOn h′)) ≡ proceed (afterTick (askedIn h) (bookOn h))
-goes-as h h′ e f = ap (λ (q : Asked). proceed (afterTick q (bookOn h′))) e ∙ ap (λ (b : Book). proceed (afterTick (askedIn h) b)) f
-
--- a course that goes on with the call in hand
-pub followed-after : (h : Runtime) (c : Course) (i : Interaction) (k : Good h) (l : Leads c (stateIn h) i) {z : Runtime} {r : Answer}
-    → Leaves (followedIn c h) (c .answer) z r → goesOn (c .way) ≡ true → proceed (afterTick (askedIn z) (bookOn z)) ≡ proceed i
-followed-after h c i k l left e = ap (λ (x : Runtime). proceed (afterTick (askedIn x) (bookOn x))) (left .stored) ∙ followed-on h c i k l e
-
 -- the tick that is not quiet
 module _ (w : List ℕ) {u : List ℕ} {a : Answer} (fixed : Fixed) (numbers : Numbers) (falling : Falling) (axis : ℕ) (lease : LeaseSlot) (time : ℕ) (c : Course) {b : Bool}
     (f : fixed ≡ runtimeIn w .fixed) (n : numbers ≡ runtimeIn w .numbers) (l : falling ≡ runtimeIn w .falling)
@@ -173,7 +162,7 @@ module _ (w : List ℕ) {u : List ℕ} {a : Answer} (fixed : Fixed) (numbers : N
             λ g.
             let there = left .leaves (tick-leads g .falling) in
             let exact = y .tightens (left-good (runtimeIn w) c ticking g (tick-leads g) (runtimeIn u) a there) in
-            (exact .good, goes-as (runtimeIn u) (runtimeIn v) (exact .asked) (exact .book) ∙ followed-after (runtimeIn w) c ticking g (tick-leads g) there (sym test ∙ t));
+            (exact .good, goes-as (runtimeIn u) (runtimeIn v) (exact .asked) (exact .book) ∙ followed-after (runtimeIn w) c ticking g (tick-leads g) (runtimeIn u) a there (sym test ∙ t));
       }
 
 -- the call in hand ------------------------------------------------------------------------------------------------------------

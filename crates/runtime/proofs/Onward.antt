@@ -2,7 +2,7 @@
 use Prim.Native.Nat.{ℕ}
 use mathlib.Core.Bool.{true, false, not, false≢true}
 use mathlib.Core.Logic.{_≢_}
-use mathlib.Core.Path.{_≡_, sym, ap, subst}
+use mathlib.Core.Path.{_≡_, sym, ap, subst, _∙_}
 use native.Mathlib.Omega.{arith}
 use lib.Dec.{T}
 use lib.ListN.{getD}
@@ -78,11 +78,8 @@ module _ (h z : Runtime) (r : Answer) where
 -- a tick ---------------------------------------------------------------------------------------------------------------------
 
 -- a call goes on in a runtime with the same book and the same call in hand
-goes-as : (h h′ z : Runtime) (r : Answer) → askedIn h′ ≡ askedIn h → bookOn h′ ≡ bookOn h → MovesIn z r (proceed (afterTick (askedIn h′) (bookOn h′)))
-    → MovesIn z r (proceed (afterTick (askedIn h) (bookOn h)))
-goes-as h h′ z r e f m =
-    subst (λ (b : Book). MovesIn z r (proceed (afterTick (askedIn h) b))) f
-    (subst (λ (q : Asked). MovesIn z r (proceed (afterTick q (bookOn h′)))) e m)
+pub goes-as : (h h′ : Runtime) → askedIn h′ ≡ askedIn h → bookOn h′ ≡ bookOn h → proceed (afterTick (askedIn h′) (bookOn h′)) ≡ proceed (afterTick (askedIn h) (bookOn h))
+goes-as h h′ e f = ap (λ (q : Asked). proceed (afterTick q (bookOn h′))) e ∙ ap (λ (b : Book). proceed (afterTick (askedIn h) b)) f
 
 -- the axis that is due, if any, as a look shows it
 pub due-shown : (h : Runtime) (time from axis : ℕ) → Good h → axis ≡ firstDue time (tablesIn h .leases) (tablesIn h .active) from
@@ -97,16 +94,18 @@ module _ (h : Runtime) (c : Course) (i : Interaction) (k : Good h) (l : Leads c 
   pub left-good : Good z
   left-good = subst Good (sym (left .stored)) (followed-good h c i k l)
 
+  -- where its course goes on with the call in hand, that is what the rules say
+  pub followed-after : goesOn (c .way) ≡ true → proceed (afterTick (askedIn z) (bookOn z)) ≡ proceed i
+  followed-after e = ap (λ (x : Runtime). proceed (afterTick (askedIn x) (bookOn x))) (left .stored) ∙ followed-on h c i k l e
+
   -- it goes on after its course, at once
   pub resumes : T (goesOn (c .way)) → (z′ : Runtime) (r′ : Answer) → MovesIn z′ r′ (proceed (afterTick (askedIn z) (bookOn z))) → MovesIn z′ r′ (proceed i)
-  resumes t z′ r′ m =
-      subst (MovesIn z′ r′) (followed-on h c i k l (is-yes (goesOn (c .way)) t))
-      (subst (λ (x : Runtime). MovesIn z′ r′ (proceed (afterTick (askedIn x) (bookOn x)))) (left .stored) m)
+  resumes t z′ r′ m = subst (MovesIn z′ r′) (followed-after (is-yes (goesOn (c .way)) t)) m
 
   -- .. with `soonest` made exact first
   pub supervises : T (goesOn (c .way)) → (y z′ : Runtime) (r′ : Answer) → Tightens z y → MovesIn z′ r′ (proceed (afterTick (askedIn y) (bookOn y)))
       → MovesIn z′ r′ (proceed i)
-  supervises t y z′ r′ s m = resumes t z′ r′ (goes-as z y z′ r′ (s .asked) (s .book) m)
+  supervises t y z′ r′ s m = resumes t z′ r′ (subst (MovesIn z′ r′) (goes-as z y (s .asked) (s .book)) m)
 
   -- or it ends
   pub ends-so : T (not (goesOn (c .way))) → MovesIn z r (proceed i)

@@ -1,5 +1,5 @@
 -- The bytes of words and the words of bytes, one more at the end.
-use Prim.Native.Nat.{ℕ, zero, suc, _+_, _*_, _/_, _%_, _<_}
+use Prim.Native.Nat.{ℕ, zero, suc, _+_, _*_, _/_, _<_}
 use mathlib.Core.Path.{_≡_, refl, ap, _∙_}
 use mathlib.Core.List.{List, [], _∷_, _++_, append-assoc, append-nil}
 use native.Mathlib.Nat.{le-of-suc-le-suc, not-suc-le-zero}
@@ -7,27 +7,10 @@ use native.Mathlib.Omega.{arith}
 use lib.ListN.{length, take, getD, length-append}
 use Rattle.words.specs.Words.{wordAt, wordsAt, littleEnd, bytesOf}
 
--- what is left of a number without its first bytes
-unfoldable pub shifted : ℕ → ℕ → ℕ
-shifted zero w = w
-shifted (suc n) w = shifted n w / 256
-
-shifted-first : (n w : ℕ) → shifted n (w / 256) ≡ shifted n w / 256
-unfolding shifted
-shifted-first zero w = refl
-shifted-first (suc n) w = ap (λ (x : ℕ). x / 256) (shifted-first n w)
-
 pub length-littleEnd : (n w : ℕ) → length (littleEnd n w) ≡ n
 unfolding littleEnd
 length-littleEnd zero w = refl
 length-littleEnd (suc n) w = ap suc (length-littleEnd n (w / 256))
-
-pub littleEnd-suc : (n w : ℕ) → littleEnd (suc n) w ≡ littleEnd n w ++ (shifted n w % 256 ∷ [])
-unfolding littleEnd shifted
-littleEnd-suc zero w = refl
-littleEnd-suc (suc n) w =
-    ap (λ (l : List ℕ). w % 256 ∷ l) (littleEnd-suc n (w / 256))
-    ∙ ap (λ (x : ℕ). w % 256 ∷ (littleEnd n (w / 256) ++ (x % 256 ∷ []))) (shifted-first n w)
 
 pub length-bytesOf : (ws : List ℕ) → length (bytesOf ws) ≡ 8 * length ws
 unfolding bytesOf

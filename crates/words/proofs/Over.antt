@@ -33,12 +33,6 @@ over-over out at a b n e h =
     ∙ seam (take at out ++ a) r b (at + n) (simp (length-append, length-take) (omega arith))
     ∙ simp (append-assoc, drop-drop, length-append, add-assoc)
 
--- so is an element stored after a piece
-pub over-set : (out : List ℕ) (at : ℕ) (a : List ℕ) (x n : ℕ) → length a ≡ n → at + n < length out → set (over out at a) (at + n) x ≡ over out at (a ++ (x ∷ []))
-over-set out at a x n e h =
-    let l : at + n < length (over out at a) = omega (arith, length-over out at a (omega arith)) in
-    set-over (over out at a) (at + n) x l ∙ over-over out at a (x ∷ []) n e (omega arith)
-
 pub over-nil : (out : List ℕ) (at : ℕ) → over out at [] ≡ out
 unfolding over
 over-nil out at = rw (add-zero, take-append-drop)

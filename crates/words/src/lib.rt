@@ -1,4 +1,5 @@
-// Words of 8 bytes, little end first, read from and written to lent bytes (docs/WIRE.md): an input record is 16 words, an output record 26.
+// Words of 8 bytes, little end first, read from and written to lent bytes (docs/WIRE.md): an input record is 16 words, an output record 26; and numbers
+// of any width up to 8 bytes.
 // Promises: what is read is the definition's number of the bytes there; what is written stands at its place and nothing else is altered; a signed number and its
 // 32 bits determine each other.
 // Rests on nothing but the language.
@@ -57,19 +58,6 @@ fn low_byte(word: u64) -> u8
     (word % 256) as u8
 }
 
-fn put_word(output: &mut [u8], at: usize, word: u64)
-    requires { ⌜ at + 8 ≤ length (now output) ⌝ }
-    ensures { λ _. ⌜ now (output .exit) ≡ over (now (output .entry)) at (littleEnd 8 word) ⌝ }
-{
-    let mut rest = word;
-    let mut i = 0;
-    while i < 8 {
-        output[at + i] = low_byte(rest);
-        rest = rest / 256;
-        i += 1;
-    }
-}
-
 // Writes the words of an output record.
 pub fn put_record(output: &mut [u8], at: usize, words: [u64; 26])
     requires { ⌜ at + 208 ≤ length (now output) ⌝ }
@@ -77,7 +65,7 @@ pub fn put_record(output: &mut [u8], at: usize, words: [u64; 26])
 {
     let mut i = 0;
     while i < 26 {
-        put_word(output, at + 8 * i, words[i]);
+        put_number(output, at + 8 * i, 8, words[i]);
         i += 1;
     }
 }

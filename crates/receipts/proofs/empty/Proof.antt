@@ -5,12 +5,6 @@ use borrow.Author.Needs.{needs}
 use Rattle.receipts.proofs.empty.Statement.{statement}
 use Rattle.receipts.proofs.empty.Tie as tie
 
-empty-requires : tie.Need-empty-requires
-empty-requires c κs = search needs
-
-blank-requires : tie.Need-blank-requires
-blank-requires c κs = search needs
-
 returns : tie.Need-returns
 returns c =
     let e = c .before .empty .ensures in
@@ -18,4 +12,9 @@ returns c =
     record { kept = e .sound st (record { rejections = refl; others = refl; receipts = refl }); nothing = e .nothing st }
 
 pub empty-spec : {M : Type 1} → statement M
-empty-spec = tie.close (tie.spec empty-requires blank-requires returns)
+empty-spec =
+    tie.close
+    (tie.spec
+    (λ c κs. search needs)
+    (λ c κs. search needs)
+    returns)

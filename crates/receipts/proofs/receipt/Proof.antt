@@ -5,21 +5,12 @@ use borrow.Author.Needs.{needs}
 use Rattle.receipts.proofs.receipt.Statement.{statement}
 use Rattle.receipts.proofs.receipt.Tie as tie
 
-place-of-requires : tie.Need-place-of-requires
-place-of-requires c κs = search needs
-
-enum-known-found : tie.Need-enum-known-found
-enum-known-found c = search needs
-
 array-read-kept : tie.Need-array-read-kept
 array-read-kept c =
     let a = c .before .before .before .before .before .before .before .before in
     let f = c .before .before .before .place-of in
     let g = c .before .found .given in
     omega (arith, a .pre .long .rejections, rejected-inside (a .args .ring .index) (a .args .index) (f .result) (f .ensures) (storesOf (a .args .ring)) (a .pre) (g .0 .0) (g .1))
-
-cast-kept : tie.Need-cast-kept
-cast-kept c = search needs
 
 mul-kept : tie.Need-mul-kept
 mul-kept c =
@@ -35,18 +26,12 @@ array-copy-out-kept c =
     let g = c .before .found .given in
     rejected-below (a .args .ring .index) (a .args .index) (f .result) (f .ensures) (storesOf (a .args .ring)) (a .pre) (g .0 .0) (g .1)
 
-enum-known-found-2 : tie.Need-enum-known-found-2
-enum-known-found-2 c = search needs
-
 array-read-kept-2 : tie.Need-array-read-kept-2
 array-read-kept-2 c =
     let a = c .before .before .before .before .before .before .before .before in
     let f = c .before .before .before .place-of in
     let g = c .before .found2 .given in
     omega (arith, a .pre .long .others, other-inside (a .args .ring .index) (a .args .index) (f .result) (f .ensures) (storesOf (a .args .ring)) (a .pre) (g .0 .0) (g .1))
-
-cast-kept-2 : tie.Need-cast-kept-2
-cast-kept-2 c = search needs
 
 mul-kept-2 : tie.Need-mul-kept-2
 mul-kept-2 c =
@@ -61,12 +46,6 @@ array-copy-out-kept-2 c =
     let f = c .before .before .before .place-of in
     let g = c .before .found2 .given in
     other-below (a .args .ring .index) (a .args .index) (f .result) (f .ensures) (storesOf (a .args .ring)) (a .pre) (g .0 .0) (g .1)
-
-enum-told : tie.Need-enum-told
-enum-told c = search needs
-
-blank-requires : tie.Need-blank-requires
-blank-requires c κs = search needs
 
 returns : tie.Need-returns
 returns c =
@@ -92,19 +71,19 @@ pub receipt-spec : {M : Type 1} → statement M
 receipt-spec =
     tie.close
     (tie.spec
-    place-of-requires
-    enum-known-found
+    (λ c κs. search needs)
+    (λ c. search needs)
     array-read-kept
-    cast-kept
+    (λ c. search needs)
     mul-kept
     array-copy-out-kept
-    enum-known-found-2
+    (λ c. search needs)
     array-read-kept-2
-    cast-kept-2
+    (λ c. search needs)
     mul-kept-2
     array-copy-out-kept-2
-    enum-told
-    blank-requires
+    (λ c. search needs)
+    (λ c κs. search needs)
     returns
     returns-2
     returns-3)

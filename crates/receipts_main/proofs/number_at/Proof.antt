@@ -14,13 +14,14 @@ unfolding keptAt numberOf noReceipt
 number-of none = refl
 number-of (some r) = refl
 
-receipt-requires : tie.Need-receipt-requires
-receipt-requires c κs = search needs
-
 returns : tie.Need-returns
 returns c =
     let a = c .before .before in
     rw (c .before .receipt .ensures) (number-of (getElem? (receiptsOf (a .args .ring)) (a .args .place)))
 
 pub number-at-spec : {M : Type 1} → statement M
-number-at-spec = tie.close (tie.spec receipt-requires returns)
+number-at-spec =
+    tie.close
+    (tie.spec
+    (λ c κs. search needs)
+    returns)

@@ -4,12 +4,13 @@ use borrow.Author.Needs.{needs}
 use Rattle.receipts_speed.proofs.numbered.Statement.{statement}
 use Rattle.receipts_speed.proofs.numbered.Tie as tie
 
-decision-of-requires : tie.Need-decision-of-requires
-decision-of-requires c κs = search needs
-
 returns : tie.Need-returns
 unfolding numberedReceipt noReceipt
 returns c = rw (c .decision-of .ensures)
 
 pub numbered-spec : {M : Type 1} → statement M
-numbered-spec = tie.close (tie.spec decision-of-requires returns)
+numbered-spec =
+    tie.close
+    (tie.spec
+    (λ c κs. search needs)
+    returns)

@@ -14,29 +14,8 @@ Inv-loop pushes kinds index₀ slots₀ rejections₀ others₀ id₀ index slot
 abbrev μ-loop : tie.MeasureT-loop
 μ-loop pushes kinds index₀ slots₀ rejections₀ others₀ id₀ index slots rejections others id = pushes - id
 
-empty-requires : tie.Need-empty-requires Inv-loop μ-loop
-empty-requires c κs = search needs
-
-blank-requires : tie.Need-blank-requires Inv-loop μ-loop
-blank-requires c κs = search needs
-
 loop-holds : tie.Need-loop-holds Inv-loop μ-loop
 loop-holds c = (search needs, none-yet (c .before .empty .ensures) (record { rejections = refl; others = refl; receipts = refl }))
-
-numbered-requires : tie.Need-numbered-requires Inv-loop μ-loop
-numbered-requires c κs = search needs
-
-is-rejected-requires : tie.Need-is-rejected-requires Inv-loop μ-loop
-is-rejected-requires c κs = search needs
-
-array-read-push : tie.Need-array-read-push Inv-loop μ-loop
-array-read-push c = search needs
-
-array-read-push-2 : tie.Need-array-read-push-2 Inv-loop μ-loop
-array-read-push-2 c = search needs
-
-push-requires : tie.Need-push-requires Inv-loop μ-loop
-push-requires c κs = search needs
 
 mul-slots : tie.Need-mul-slots Inv-loop μ-loop
 mul-slots c =
@@ -62,9 +41,6 @@ cast-rejections c =
     let loop = c .before .before .before .before .before .loop in
     omega (arith, pushed-below (loop .inv .1) (n .ensures) (r .ensures) (p .ensures))
 
-array-write-rejections : tie.Need-array-write-rejections Inv-loop μ-loop
-array-write-rejections c = search needs
-
 cast-others : tie.Need-cast-others Inv-loop μ-loop
 cast-others c =
     let p = c .before .push in
@@ -72,15 +48,6 @@ cast-others c =
     let n = c .before .before .before .numbered in
     let loop = c .before .before .before .before .before .loop in
     omega (arith, pushed-below (loop .inv .1) (n .ensures) (r .ensures) (p .ensures))
-
-array-write-others : tie.Need-array-write-others Inv-loop μ-loop
-array-write-others c = search needs
-
-add-id : tie.Need-add-id Inv-loop μ-loop
-add-id c = search needs
-
-loop-less : tie.Need-loop-less Inv-loop μ-loop
-loop-less c = search needs
 
 loop-again : tie.Need-loop-again Inv-loop μ-loop
 loop-again c =
@@ -95,9 +62,6 @@ loop-again c =
           (c .before .if1 .came),
     )
 
-receipt-requires : tie.Need-receipt-requires Inv-loop μ-loop
-receipt-requires c κs = search needs
-
 returns : tie.Need-returns Inv-loop μ-loop
 returns c =
     let loop = c .before .before .loop in
@@ -109,22 +73,22 @@ receipts-speed-oldest-spec =
     (tie.spec
     Inv-loop
     μ-loop
-    empty-requires
-    blank-requires
+    (λ c κs. search needs)
+    (λ c κs. search needs)
     loop-holds
-    numbered-requires
-    is-rejected-requires
-    array-read-push
-    array-read-push-2
-    push-requires
+    (λ c κs. search needs)
+    (λ c κs. search needs)
+    (λ c. search needs)
+    (λ c. search needs)
+    (λ c κs. search needs)
     mul-slots
     array-set-from-slots
     cast-rejections
-    array-write-rejections
+    (λ c. search needs)
     cast-others
-    array-write-others
-    add-id
-    loop-less
+    (λ c. search needs)
+    (λ c. search needs)
+    (λ c. search needs)
     loop-again
-    receipt-requires
+    (λ c κs. search needs)
     returns)

@@ -22,39 +22,15 @@ loop-holds : tie.Need-loop-holds Inv-loop μ-loop
 unfolding bytesOf
 loop-holds c = (search needs, search needs, sym (over-nil _ _))
 
-mul-put-word : tie.Need-mul-put-word Inv-loop μ-loop
-mul-put-word c = search needs
-
-add-put-word : tie.Need-add-put-word Inv-loop μ-loop
-add-put-word c = search needs
-
-mul-put-word-2 : tie.Need-mul-put-word-2 Inv-loop μ-loop
-mul-put-word-2 c = search needs
-
-array-read-put-word : tie.Need-array-read-put-word Inv-loop μ-loop
-array-read-put-word c = search needs
-
-put-word-requires : tie.Need-put-word-requires Inv-loop μ-loop
-put-word-requires c κs = search needs
-
-add-i : tie.Need-add-i Inv-loop μ-loop
-add-i c = search needs
-
-loop-less : tie.Need-loop-less Inv-loop μ-loop
-loop-less c = search needs
-
 loop-again : tie.Need-loop-again Inv-loop μ-loop
 loop-again c =
     let at-loop = c .before .before .before .before .before in
     let h : at-loop .loop .i < length (at-loop .before .before .args .t3) = omega arith in (
       search needs,
       search needs,
-      c .before .before .put-word .ensures
+      c .before .before .put-number .ensures
           ∙ rw (at-loop .loop .inv .2, add-one, bytesOf-suc) (over-over _ _ _ _ _ (simp (length-bytesOf, length-take) (omega arith)) (omega arith)),
     )
-
-same-length : tie.Need-same-length Inv-loop μ-loop
-same-length c = search needs
 
 returns : tie.Need-returns Inv-loop μ-loop
 returns c = let e : c .before .loop .i ≡ 26 = omega arith in cc (take-all 26 (c .before .before .before .args .t3) (omega arith))
@@ -66,13 +42,13 @@ put-record-spec =
     Inv-loop
     μ-loop
     loop-holds
-    mul-put-word
-    add-put-word
-    mul-put-word-2
-    array-read-put-word
-    put-word-requires
-    add-i
-    loop-less
+    (λ c. search needs)
+    (λ c. search needs)
+    (λ c. search needs)
+    (λ c. search needs)
+    (λ c κs. search needs)
+    (λ c. search needs)
+    (λ c. search needs)
     loop-again
-    same-length
+    (λ c. search needs)
     returns)

@@ -3,17 +3,8 @@ use borrow.Author.Needs.{needs}
 use Rattle.words.proofs.signed.Statement.{statement}
 use Rattle.words.proofs.signed.Tie as tie
 
-cast-result : tie.Need-cast-result
-cast-result c = search needs
-
 returns : tie.Need-returns
 returns c = signed-low _ (c .if1 .taken)
-
-sub-below : tie.Need-sub-below
-sub-below c = search needs
-
-cast-result-2 : tie.Need-cast-result-2
-cast-result-2 c = search needs
 
 sub-result : tie.Need-sub-result
 sub-result c = high-fits _ (c .if1 .left)
@@ -22,4 +13,12 @@ returns-2 : tie.Need-returns-2
 returns-2 c = signed-high _ (c .if1 .left)
 
 pub signed-spec : {M : Type 1} → statement M
-signed-spec = tie.close (tie.spec cast-result returns sub-below cast-result-2 sub-result returns-2)
+signed-spec =
+    tie.close
+    (tie.spec
+    (λ c. search needs)
+    returns
+    (λ c. search needs)
+    (λ c. search needs)
+    sub-result
+    returns-2)

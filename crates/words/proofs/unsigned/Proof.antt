@@ -6,14 +6,13 @@ use borrow.Author.Needs.{needs}
 use Rattle.words.proofs.unsigned.Statement.{statement}
 use Rattle.words.proofs.unsigned.Tie as tie
 
-bits-of-requires : tie.Need-bits-of-requires
-bits-of-requires c κs = search needs
-
-cast-result : tie.Need-cast-result
-cast-result c = search needs
-
 returns : tie.Need-returns
 returns c = c .bits-of .ensures ∙ ap unsigned (toZ-ofZ {w = w32} {z = c .before .args .value} (search needs))
 
 pub unsigned-spec : {M : Type 1} → statement M
-unsigned-spec = tie.close (tie.spec bits-of-requires cast-result returns)
+unsigned-spec =
+    tie.close
+    (tie.spec
+    (λ c κs. search needs)
+    (λ c. search needs)
+    returns)
