@@ -2,6 +2,8 @@
 // Promises: a bound contains what lies from its minimum to its maximum; a capability permits the flags that meet both its words; a
 // reason and its number determine each other, and so do a decision and its number; a record is sound exactly by 01's seven conditions.
 // Rests on nothing but the language.
+#![tactic(auto)]
+
 ghost use Rattle.std.specs.Prelude.{◌≡◌, ◌&&◌, eqb, drop};
 ghost use Rattle.std.specs.Int.Signed.{le_z};
 ghost use Rattle.std.specs.Int.Bits.{bit_and};
@@ -22,7 +24,7 @@ pub const REPLAY_CAPACITY: usize = 32;
 
 pub const RECEIPT_CAPACITY: usize = 64;
 
-#[derive(Drop)]
+#[derive(Clone, Copy)]
 pub struct Bounds {
     pub min: i32,
     pub max: i32,
@@ -80,14 +82,14 @@ fn zero_past(bounds: [Bounds; 2], count: u8) -> bool
     true
 }
 
-#[derive(Drop)]
+#[derive(Clone, Copy)]
 pub enum ExecutionClass {
     Stream,
     Discrete,
     Control,
 }
 
-#[derive(Drop)]
+#[derive(Clone, Copy)]
 pub enum Verification {
     // The observation must equal the requested parameters.
     Parameters,
@@ -107,7 +109,7 @@ impl Verification {
     }
 }
 
-#[derive(Drop)]
+#[derive(Clone, Copy)]
 pub struct Capability {
     pub id: u16,
     pub resource: u8,
@@ -159,7 +161,7 @@ impl Capability {
     }
 }
 
-#[derive(Drop)]
+#[derive(Clone, Copy)]
 pub struct Action {
     pub boot_id: u64,
     pub requester: u64,
@@ -175,7 +177,7 @@ pub struct Action {
 }
 
 // A submission: the order, who brings it, when it was received, and the time of the call (the arguments of `submit`).
-#[derive(Drop)]
+#[derive(Clone, Copy)]
 pub struct Submission {
     pub action: Action,
     pub principal: u64,
@@ -183,7 +185,7 @@ pub struct Submission {
     pub now: u64,
 }
 
-#[derive(Drop)]
+#[derive(Clone, Copy)]
 pub struct LeaseRequest {
     pub owner: u64,
     pub resource: u8,
@@ -194,7 +196,7 @@ pub struct LeaseRequest {
 }
 
 // A renewal: whose lease, which one, the number of the renewal, for how long, and the time of the call (the arguments of `renew`).
-#[derive(Drop)]
+#[derive(Clone, Copy)]
 pub struct Renewal {
     pub owner: u64,
     pub lease_id: u64,
@@ -203,7 +205,7 @@ pub struct Renewal {
     pub now: u64,
 }
 
-#[derive(Drop)]
+#[derive(Clone, Copy)]
 pub struct Lease {
     pub id: u64,
     pub owner: u64,
@@ -215,7 +217,7 @@ pub struct Lease {
     pub last_renewal: u64,
 }
 
-#[derive(Drop)]
+#[derive(Clone, Copy)]
 pub enum Reason {
     Ok,
     Bound,
@@ -248,14 +250,14 @@ pub enum Reason {
 }
 
 // What a number stands for: a reason, or none.
-#[derive(Drop)]
+#[derive(Clone, Copy)]
 pub enum Numbered {
     Known(Reason),
     Unknown,
 }
 
 // What a number stands for: a decision, or none.
-#[derive(Drop)]
+#[derive(Clone, Copy)]
 pub enum NumberedDecision {
     Known(Decision),
     Unknown,
@@ -352,7 +354,7 @@ pub const NO_REPLY_AWAITED: u16 = 112;
 
 pub const OTHER_REPLY_AWAITED: u16 = 113;
 
-#[derive(Drop)]
+#[derive(Clone, Copy)]
 pub enum Decision {
     Executed,
     Rejected,
@@ -362,6 +364,7 @@ pub enum Decision {
 }
 
 impl Decision {
+    #[tactic(auto, unfolding(crate::specs::Decisions::decision_number))]
     pub fn number(self) -> u8
         ensures { result ≡ decision_number self }
     {
@@ -374,6 +377,7 @@ impl Decision {
         }
     }
 
+    #[tactic(auto, unfolding(crate::specs::Decisions::decision_at))]
     pub fn from_number(n: u8) -> NumberedDecision
         ensures { result ≡ decision_at n }
     {
@@ -388,7 +392,7 @@ impl Decision {
     }
 }
 
-#[derive(Drop)]
+#[derive(Clone, Copy)]
 pub enum RuntimeState {
     SafeIdle,
     Armed,
@@ -396,14 +400,14 @@ pub enum RuntimeState {
     Estopped,
 }
 
-#[derive(Drop)]
+#[derive(Clone, Copy)]
 pub struct Observation {
     pub parameters: [i32; 2],
     pub state: u32,
 }
 
 // In an order that leaves few gaps: 128 bytes.
-#[derive(Drop)]
+#[derive(Clone, Copy)]
 pub struct Receipt {
     pub boot_id: u64,
     pub principal: u64,
@@ -430,7 +434,7 @@ pub struct Receipt {
     pub observed_valid: bool,
 }
 
-#[derive(Drop)]
+#[derive(Clone, Copy)]
 pub struct Snapshot {
     pub boot_id: u64,
     pub epoch: u64,
@@ -443,7 +447,7 @@ pub struct Snapshot {
     pub next_receipt_id: u64,
 }
 
-#[derive(Drop)]
+#[derive(Clone, Copy)]
 pub struct Config {
     pub watchdog_ms: u32,
     pub state_ttl_ms: u32,
@@ -469,14 +473,14 @@ impl Config {
 }
 
 // The order that an axis carries out, supervised until it ends (runtime.rs).
-#[derive(Drop)]
+#[derive(Clone, Copy)]
 pub struct Active {
     pub capability: Capability,
     pub expires_at: u64,
 }
 
 // An admitted order's owner and id, and the receipt that consumed them (runtime.rs).
-#[derive(Drop)]
+#[derive(Clone, Copy)]
 pub struct Replay {
     pub owner: u64,
     pub action_id: u64,
@@ -484,25 +488,25 @@ pub struct Replay {
 }
 
 // The Rust's `Option` in an array is a slot: an absent one holds a fixed blank, so that equal contents are equal values.
-#[derive(Drop)]
+#[derive(Clone, Copy)]
 pub enum Presence {
     Absent,
     Present,
 }
 
-#[derive(Drop)]
+#[derive(Clone, Copy)]
 pub struct LeaseSlot {
     pub presence: Presence,
     pub lease: Lease,
 }
 
-#[derive(Drop)]
+#[derive(Clone, Copy)]
 pub struct ActiveSlot {
     pub presence: Presence,
     pub active: Active,
 }
 
-#[derive(Drop)]
+#[derive(Clone, Copy)]
 pub struct ReplaySlot {
     pub presence: Presence,
     pub replay: Replay,

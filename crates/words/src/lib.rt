@@ -3,6 +3,8 @@
 // Promises: what is read is the definition's number of the bytes there; what is written stands at its place and nothing else is altered; a signed number and its
 // 32 bits determine each other.
 // Rests on nothing but the language.
+#![tactic(auto)]
+
 ghost use Rattle.std.specs.Prelude.{◌≡◌, ◌+◌, ◌%◌, ◌≤◌, ◌<◌, length};
 ghost use Rattle.words.specs.Signs.{signed as signed_of, unsigned as unsigned_of};
 ghost use Rattle.words.specs.Words.{half_at, word_at, record_at, little_end, little_number, bytes_of, over};

@@ -1,0 +1,5 @@
+use borrow.Author.Rules.{rules}
+use Rattle.model.proofs.ActiveSlot.blank.Goals as goal
+
+pub returns : goal.returns
+returns c = simp c.blank.ensures
