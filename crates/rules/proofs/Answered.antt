@@ -13,7 +13,6 @@ use Rattle.model.specs.declared.Decision.TheVariants as Decision
 use Rattle.model.specs.declared.Lease.{Lease}
 use Rattle.model.specs.declared.LeaseRequest.{LeaseRequest}
 use Rattle.model.specs.declared.Reason.{Reason}
-use Rattle.model.specs.declared.Reason.TheVariants as Reason
 use Rattle.model.specs.declared.Receipt.{Receipt}
 use Rattle.model.specs.declared.Renewal.{Renewal}
 use Rattle.model.specs.Soundness.{axis_used}
@@ -35,7 +34,7 @@ use Rattle.rules.proofs.Checks.{held}
 use Rattle.rules.proofs.Executed.{observed-not-rejected}
 use Rattle.rules.proofs.Grantable.{grantable, grantable-checked, renewable}
 use Rattle.rules.proofs.Axes.{used_low}
-use Rattle.rules.proofs.Trees.{over, at-end}
+use Rattle.rules.proofs.Trees.{over, at-end, noted}
 use Rattle.rules.proofs.InHand.{begun}
 use Rattle.rules.proofs.Once.{holds}
 use Rattle.rules.proofs.Ends.{EndedAt, ended, Opened, opens, resumes, ticked-by}
@@ -250,7 +249,7 @@ lease-answered s h x b l out e f =
 leased-answer : {rs : List Reply} {is : List Item} {after : Book} {a : Answer} (axis : ℕ) (l : Lease) (reason : Reason) (now : ℕ) (b : Book)
     → Runs (leased axis l reason now b) rs is (Done after a) → a ≡ Leased l
 unfolding leased record_receipt
-leased-answer axis l reason now b (then recorded w) = sym (at-end w).answer
+leased-answer axis l reason now b w = sym (at-end (noted w).left).answer
 
 past-grant : {rs first : List Reply} {first_items is : List Item} {book after : Book} {a : Answer} (second : List Reply) (c : Call) (q : LeaseRequest) (now : ℕ)
     (before : Book) → c ≡ Acquire q now → rs ≡ first ++ second

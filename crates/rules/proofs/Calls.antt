@@ -12,18 +12,15 @@ use lib.Dec.{eqb, ltb, leb}
 use lib.ListN.{set, take}
 use Rattle.model.specs.declared.Capability.{Capability}
 use Rattle.model.specs.declared.Decision.{Decision}
-use Rattle.model.specs.declared.Decision.TheVariants as Decision
 use Rattle.model.specs.declared.Lease.{Lease}
 use Rattle.model.specs.declared.LeaseRequest.{LeaseRequest}
 use Rattle.model.specs.declared.Observation.{Observation}
 use Rattle.model.specs.declared.Reason.{Reason}
-use Rattle.model.specs.declared.Reason.TheVariants as Reason
 use Rattle.model.specs.declared.Receipt.{Receipt}
 use Rattle.model.specs.declared.Renewal.{Renewal}
 use Rattle.model.specs.declared.RuntimeState.{RuntimeState}
 use Rattle.model.specs.declared.RuntimeState.TheVariants as State
 use Rattle.model.specs.declared.Submission.{Submission}
-use Rattle.model.specs.Reasons.{number}
 use Rattle.model.specs.Soundness.{axis_used}
 use Rattle.model.proofs.Tests.{and_both}
 use Rattle.rules.specs.Book.{Book, lease_at}

@@ -12,13 +12,11 @@ use lib.IntN.{ℤ, pos, negsuc}
 use lib.Signed.{le_z}
 use Rattle.model.specs.declared.Capability.{Capability}
 use Rattle.model.specs.declared.Decision.{Decision}
-use Rattle.model.specs.declared.Decision.TheVariants as Decision
 use Rattle.model.specs.declared.ExecutionClass.{ExecutionClass}
 use Rattle.model.specs.declared.ExecutionClass.TheVariants as Class
 use Rattle.model.specs.declared.Lease.{Lease}
 use Rattle.model.specs.declared.Observation.{Observation}
 use Rattle.model.specs.declared.Reason.{Reason}
-use Rattle.model.specs.declared.Reason.TheVariants as Reason
 use Rattle.model.specs.declared.Receipt.{Receipt}
 use Rattle.model.specs.declared.RuntimeState.{RuntimeState}
 use Rattle.model.specs.declared.RuntimeState.TheVariants as State
@@ -38,7 +36,7 @@ use Rattle.rules.specs.Log.{History, phase_after, output_after, log_of, book_bef
 use Rattle.rules.specs.Admissible.{Admissible}
 use Rattle.rules.specs.Way.{observed, executed, recorded, Runs, then, Ticked}
 use Rattle.rules.specs.AnswerFacts.{Verified, AllFour, ActiveSo, stream, discrete, control, Completed, FailedBy, unobserved, unexecuted, unobserved-after, unverified, FailedSo}
-use Rattle.rules.proofs.Trees.{over, at-end}
+use Rattle.rules.proofs.Trees.{over, at-end, noted}
 use Rattle.rules.proofs.Records.{with-named}
 use Rattle.rules.proofs.Admission.{admitted-exactly}
 use Rattle.rules.proofs.Exactly.{admits, admitted-iff}
@@ -139,20 +137,22 @@ submitted-same e = cc
 fell-short : {rs : List Reply} {is : List Item} {after : Book} {r : Receipt} (c : Capability) (reason : Reason) (p : Progress) (o : Submission) (b : Book)
     → Runs (fail c reason p o b) rs is (Done after (Submitted r)) → FellShort o.now reason b after rs is r
 unfolding fail record_receipt trip numbered order_receipt kept with_next_receipt with_receipts with_state
-fell-short {rs} {is} {after} {r} c reason p o b (then {rs = tripping} {is = trip_items} recorded w) =
+fell-short {rs} {is} {after} {r} c reason p o b w =
     let own = numbered b.next_receipt (order_receipt o (some c) Decision.Failed reason 0 p b) in
-    let m = swept-fallbacks (Submitted own) (used_axes b.capabilities) reason o.now _ w in
+    let k = noted w in
+    let m = swept-fallbacks (Submitted own) (used_axes b.capabilities) reason o.now _ k.left in
     let same = submitted-same m.1.1 in
     subst (FellShort o.now reason b after rs is) same
     (record {
       decision = refl;
       says = refl;
-      tripping = tripping;
-      replies = refl;
-      trip_items = trip_items;
-      items = refl;
+      tripping = k.later;
+      replies = k.replies;
+      trip_items = k.later_items;
+      items = k.items;
       recorded = kept own b;
-      trips = subst (λ q. Runs (trip reason o.now (kept own b) (λ b. Done b (Submitted own))) tripping trip_items (Done after (Submitted q))) (sym same) w;
+      trips = subst (λ q. Runs (trip reason o.now (kept own b) (λ b. Done b (Submitted own))) k.later k.later_items (Done after (Submitted q))) (sym same)
+          k.left;
       swept = record { capabilities = m.0.capabilities; each = m.0.each };
       state = m.1.0;
     })
@@ -167,10 +167,11 @@ data Came (c : Capability) (o : Submission) (b : Book) (rs : List Reply) (is : L
 completed : {rs : List Reply} {is : List Item} {after : Book} {r : Receipt} (c : Capability) (end : ℕ) (p : Progress) (o : Submission) (b : Book)
     → Runs (complete c end p o b) rs is (Done after (Submitted r)) → (rs ≡ Recorded ∷ []) × (r.decision ≡ Decision.Executed)
 unfolding complete record_receipt numbered order_receipt
-completed c end p o b (then recorded w) =
-    let k = at-end w in
+completed c end p o b w =
+    let n = noted w in
+    let k = at-end n.left in
     let same = submitted-same k.answer in
-    (ap (λ (q : List Reply). Recorded ∷ q) k.replies, ap (λ (x : Receipt). x.decision) (sym same))
+    (n.replies ∙ ap (λ (q : List Reply). Recorded ∷ q) k.replies, ap (λ (x : Receipt). x.decision) (sym same))
 
 module _ (c : Capability) (o : Submission) (end : ℕ) (b : Book) where
   -- the second observation

@@ -24,7 +24,6 @@ use Rattle.model.specs.declared.Renewal.{Renewal}
 use Rattle.model.specs.declared.Replay.{Replay}
 use Rattle.model.specs.declared.RuntimeState.{RuntimeState}
 use Rattle.model.specs.declared.Submission.{Submission}
-use Rattle.model.specs.Soundness.{sound}
 use Rattle.rules.specs.Book.{Book, lease_at}
 use Rattle.rules.specs.With.{with_leases, with_active, with_replay, with_receipts, with_next_receipt, with_next_lease, with_epoch, with_flags, with_last_tick, with_state, with_invalid_count, with_estop_seen}
 use Rattle.rules.specs.Receipts.{top, bump, receipt_capacity, keep, kept}

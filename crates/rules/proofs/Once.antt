@@ -10,7 +10,7 @@ use Rattle.model.specs.declared.Receipt.{Receipt}
 use Rattle.model.specs.declared.Submission.{Submission}
 use Rattle.rules.specs.Book.{Book}
 use Rattle.rules.specs.Interaction.{Submitted}
-use Rattle.rules.specs.Protocol.{Submit, ItemObserve, ItemExecute, ItemRecord, Hands, Answers, Start, Phase, Starting, Gone, Idle, Waiting, wait_book, book_in, start}
+use Rattle.rules.specs.Protocol.{Submit, ItemObserve, ItemExecute, ItemRecord, Hands, Answers, Start, Phase, Starting, Gone, Idle, Waiting, wait_book, book_in}
 use Rattle.rules.specs.Lives.{Life}
 use Rattle.rules.specs.Log.{History, phase_after, output_after, Event, Handed, Ended, Log, handed, log_of, executed, dispatching, executed_by, executed_in}
 use Rattle.rules.specs.Lists.{Mem, Distinct}

@@ -9,7 +9,6 @@ use borrow.Author.Tests.{ltb-true, ltb-false}
 use lib.Dec.{ltb}
 use lib.ListN.{length, drop}
 use Rattle.model.specs.declared.Decision.{Decision}
-use Rattle.model.specs.declared.Decision.TheVariants as Decision
 use Rattle.model.specs.declared.Receipt.{Receipt}
 use Rattle.model.specs.Lists.{any}
 use Rattle.rules.specs.Receipts.{is_rejected, rejected, drop_first_rejected, evict, receipt_capacity, keep}

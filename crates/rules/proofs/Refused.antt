@@ -10,7 +10,6 @@ use lib.Dec.{ltb}
 use Rattle.model.specs.declared.Lease.{Lease}
 use Rattle.model.specs.declared.LeaseRequest.{LeaseRequest}
 use Rattle.model.specs.declared.Reason.{Reason}
-use Rattle.model.specs.declared.Reason.TheVariants as Reason
 use Rattle.model.specs.declared.Receipt.{Receipt}
 use Rattle.model.specs.declared.Renewal.{Renewal}
 use Rattle.model.specs.declared.RuntimeState.TheVariants as State
@@ -29,7 +28,7 @@ use Rattle.rules.specs.Refusals.{Refusable, Refusable.acquire as of-acquire, Ref
 use Rattle.rules.proofs.Basics.{one_of}
 use Rattle.rules.proofs.Admission.{none-fails}
 use Rattle.rules.proofs.Checks.{other, first-other, held}
-use Rattle.rules.proofs.Trees.{over, at-end}
+use Rattle.rules.proofs.Trees.{over, at-end, noted}
 use Rattle.rules.proofs.Once.{holds}
 use Rattle.rules.proofs.StateFacts.{state-facts}
 use Rattle.rules.proofs.Ends.{EndedAt, ended, Opened, opens, ticked-by, before-idle}
@@ -78,7 +77,7 @@ refused-grant : {rs : List Reply} {is : List Item} {reason : Reason} {b' : Book}
     → Unmoved (Acquire q now) reason b b' rs is
 unfolding grant leased record_receipt acquire_checks ready
 refused-grant (some why) q now b e w = unmoved (first-other Reason.Driver (acquire_checks q now b) why refl e) (why-acquire e) w
-refused-grant none q now b e (then recorded w) = absurd (false≢true (let e = (at-end w).answer in cc))
+refused-grant none q now b e w = absurd (false≢true (let e = (at-end (noted w).left).answer in cc))
 
 authority : Reason.Authority ≢ Reason.Driver
 authority = other Reason.Driver Reason.Authority refl
@@ -89,7 +88,7 @@ never-refused : {A : Type 0} {rs : List Reply} {is : List Item} {reason : Reason
 unfolding extend leased record_receipt lease_on is_some
 never-refused q none l b e k w = absurd (false≢true (ap is_some e ∙ k))
 never-refused q (some axis) none b e k w = absurd (false≢true k)
-never-refused q (some axis) (some l) b e k (then recorded w) = absurd (false≢true (let e = (at-end w).answer in cc))
+never-refused q (some axis) (some l) b e k w = absurd (false≢true (let e = (at-end (noted w).left).answer in cc))
 
 refused-renewal : {rs : List Reply} {is : List Item} {reason : Reason} {b' : Book} (f : Option Reason) (q : Renewal) (b : Book)
     → first_failing (renew_checks q b) ≡ f → Runs (renewed f q b) rs is (Done b' (Refused reason)) → Unmoved (Renew q) reason b b' rs is
@@ -142,9 +141,9 @@ unfolding fallbacks cleared bump_epoch with_epoch with_leases with_active kept w
 swept-fallbacks a [] reason now b w =
     let same = sym (at-end w).book in
     (swept_none (ap (λ (b : Book). b.capabilities) same), (ap (λ (b : Book). b.state) same, (at-end w).answer))
-swept-fallbacks a (axis ∷ rest) reason now b w =
+swept-fallbacks {rs = rs} a (axis ∷ rest) reason now b w =
     let k = fell axis reason now b _ w in
-    let m = swept-fallbacks a rest reason now _ k.left in
+    let m = swept-fallbacks {rs = k.later} a rest reason now _ k.left in
     (swept-more axis k m.0, m.1)
 
 -- ---- recover_local
@@ -158,9 +157,9 @@ swept-recoveries [] false now b w =
     let answer = (at-end w).answer in
     let same = sym (at-end w).book in
     (swept_none (ap (λ (b : Book). b.capabilities) same), (ap (λ (b : Book). b.state) same, cc))
-swept-recoveries (axis ∷ rest) good now b w =
+swept-recoveries {rs = rs} (axis ∷ rest) good now b w =
     let k = fell axis Reason.Recovered now b _ w in
-    let m = swept-recoveries rest (good && k.ok) now _ k.left in
+    let m = swept-recoveries {rs = k.later} rest (good && k.ok) now _ k.left in
     (swept-more axis k m.0, m.1)
 
 -- one of them failed, unless one had before
@@ -171,7 +170,7 @@ recovery-failed [] true now b w = absurd (false≢true (let e = (at-end w).answe
 recovery-failed [] false now b w = inl refl
 recovery-failed {rs} (axis ∷ rest) good now b w =
     let k = fell axis Reason.Recovered now b _ w in
-    rw k.replies (go good k.ok k.later (recovery-failed rest (good && k.ok) now _ k.left))
+    rw k.replies (go good k.ok k.later (recovery-failed {rs = k.later} rest (good && k.ok) now _ k.left))
   where
     go : (good ok : Bool) (later : List Reply) → ((good && ok) ≡ false) ⊎ Mem (FellBack false) later
         → (good ≡ false) ⊎ Mem (FellBack false) (FellBack ok ∷ (Recorded ∷ later))

@@ -9,7 +9,6 @@ use borrow.Author.Tests.{leb-true, le-leb}
 use lib.Dec.{leb}
 use Rattle.model.specs.declared.Decision.TheVariants as Decision
 use Rattle.model.specs.declared.Reason.{Reason}
-use Rattle.model.specs.declared.Reason.TheVariants as Reason
 use Rattle.model.specs.declared.Receipt.{Receipt}
 use Rattle.model.specs.declared.RuntimeState.{RuntimeState}
 use Rattle.model.specs.declared.RuntimeState.TheVariants as State
@@ -75,13 +74,20 @@ record Awaits (o : Submission) (b : Book) (r : Receipt) (rs : List Reply) (is : 
   rejected : Rejected b r b'
   nothing : is ≡ []
 
+-- a run from a record item that comes to stand at this one, and cannot after it
+stands-at : {q r : Receipt} {c b' : Book} {t k : Interaction} {rs : List Reply} {is : List Item} (o : Submission) (b : Book)
+    → Awaits o b q [] [] c → ((rs : List Reply) (is : List Item) → Runs t rs is (Record r b' k) → ⊥)
+    → Runs (Record q c t) rs is (Record r b' k) → Awaits o b r rs is b'
+stands-at o b a n here = a
+stands-at o b a n (then recorded w) = absurd (n _ _ w)
+
 awaits-reject : {rs : List Reply} {is : List Item} {r : Receipt} {b' : Book} {k : Interaction} (v : Verdict) (o : Submission) (b : Book)
     → validate o b ≡ v → r.decision ≡ Decision.Rejected → Runs (admit v o b) rs is (Record r b' k) → Awaits o b r rs is b'
 unfolding admit reject record_receipt counted numbered order_receipt
 awaits-reject {r = r} (Admits c l) o b q e w = absurd (not-rejected r e (tells-admitted c l o b w))
-awaits-reject (Rejects reason) o b q e here = record { why = rejected-by o b reason q; rejected = rejected-in b _; nothing = refl }
-awaits-reject {r = r} (Rejects reason) o b q e (then recorded w) =
-    absurd (no-fallback r e (recorded-as (quiet-storm {P = λ a. Unit} (λ r e. e) o.now _ _ tt) w))
+awaits-reject {r = r} (Rejects reason) o b q e w =
+    stands-at o b (record { why = rejected-by o b reason q; rejected = rejected-in b _; nothing = refl })
+    (λ rs is w. no-fallback r e (recorded-as (quiet-storm {P = λ a. Unit} (λ r e. e) o.now _ _ tt) w)) w
 
 armed : (x : RuntimeState) → is_armed x ≡ true → x ≡ State.Armed
 unfolding is_armed

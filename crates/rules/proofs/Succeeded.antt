@@ -47,9 +47,9 @@ good-recoveries : {rs : List Reply} {is : List Item} {b' : Book} (on : List ℕ)
 unfolding recoveries recovered
 good-recoveries [] true now b w = (refl, rw (at-end w).replies (λ m. m))
 good-recoveries [] false now b w = absurd (false≢true (let e = (at-end w).answer in cc))
-good-recoveries (axis ∷ rest) good now b w =
+good-recoveries {rs = rs} (axis ∷ rest) good now b w =
     let k = fell axis Reason.Recovered now b _ w in
-    let m = good-recoveries rest (good && k.ok) now _ k.left in
+    let m = good-recoveries {rs = k.later} rest (good && k.ok) now _ k.left in
     let both = and_both good k.ok m.0 in
     (both.0, rw (k.replies, both.1) (good_more k.later m.1))
 

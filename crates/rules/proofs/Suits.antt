@@ -1,6 +1,7 @@
 -- Which answers a call gives, that an order's is its own receipt, and that only a submission which fails a check hands out the receipt of a
 -- rejected order. Assumes nothing.
 use Prim.Native.Nat.{ℕ}
+use lib.IntN.{ℤ}
 use mathlib.Core.Bool.{Bool, true, false, false≢true, cond, not, ◌&&◌, ◌||◌}
 use mathlib.Core.List.{List, [], ◌∷◌, ◌++◌}
 use mathlib.Core.Logic.{◌≢◌, ◌⊎◌, inl, inr, ⊎_elim}
@@ -9,12 +10,10 @@ use mathlib.Core.Path.{◌≡◌, refl, sym, ap, ◌∙◌}
 use lib.Dec.{ltb, eqb}
 use Rattle.model.specs.declared.Capability.{Capability}
 use Rattle.model.specs.declared.Decision.{Decision}
-use Rattle.model.specs.declared.Decision.TheVariants as Decision
 use Rattle.model.specs.declared.Lease.{Lease}
 use Rattle.model.specs.declared.LeaseRequest.{LeaseRequest}
 use Rattle.model.specs.declared.Observation.{Observation}
 use Rattle.model.specs.declared.Reason.{Reason}
-use Rattle.model.specs.declared.Reason.TheVariants as Reason
 use Rattle.model.specs.declared.Receipt.{Receipt}
 use Rattle.model.specs.declared.Renewal.{Renewal}
 use Rattle.model.specs.declared.Submission.{Submission}
@@ -204,21 +203,38 @@ module _ (o : Submission) where
     tells-rest (Fallback axis r b k) w = tt
     tells-rest (Record r' b k) w = of-fallback r' (recorded-as h w)
 
+  -- a run from an item: it stands there, or has gone on
+  tells-record : {r : Receipt} {b : Book} {k v : Interaction} {rs : List Reply} {is : List Item} → Unrejected r
+      → ((rs : List Reply) (is : List Item) → Runs k rs is v → Tells (ItemRecord r ∷ is) v) → Runs (Record r b k) rs is v → Tells is v
+  tells-record q f here = q
+  tells-record q f (then recorded w) = f _ _ w
+
+  tells-observe : {axis : ℕ} {b : Book} {k : Option Observation → Interaction} {v : Interaction} {rs : List Reply} {is : List Item}
+      → ((seen : Option Observation) (rs : List Reply) (is : List Item) → Runs (k seen) rs is v → Tells is v)
+      → Runs (Observe axis b k) rs is v → Tells is v
+  tells-observe f here = tt
+  tells-observe {v = v} f (then (observed {o = seen}) w) = tells-later _ _ v (f seen _ _ w)
+
+  tells-execute : {id : ℕ} {p : List ℤ} {b : Book} {k : Bool → Interaction} {v : Interaction} {rs : List Reply} {is : List Item}
+      → ((ok : Bool) (rs : List Reply) (is : List Item) → Runs (k ok) rs is v → Tells is v)
+      → Runs (Execute id p b k) rs is v → Tells is v
+  tells-execute f here = tt
+  tells-execute {v = v} f (then (executed {ok = ok}) w) = tells-later _ _ v (f ok _ _ w)
+
 module _ (c : Capability) (o : Submission) where
   tells-fail : {v : Interaction} {rs : List Reply} {is : List Item} (reason : Reason) (p : Progress) (b : Book)
       → Runs (fail c reason p o b) rs is v → Tells o is v
   unfolding fail record_receipt numbered order_receipt is_rejected
-  tells-fail reason p b here = refl
-  tells-fail {v} reason p b (then recorded w) =
-      tells-rest o _ (of-order o (some c) Decision.Failed reason 0 p b _ (inr (inr refl))) refl
-      (follows-trip (λ r e. e) o.now (λ b. ends (refl, refl)) reason _) v w
+  tells-fail {v} reason p b w =
+      tells-record o refl (λ rs is w. tells-rest o _ (of-order o (some c) Decision.Failed reason 0 p b _ (inr (inr refl))) refl
+      (follows-trip (λ r e. e) o.now (λ b. ends (refl, refl)) reason _) v w) w
 
   tells-complete : {v : Interaction} {rs : List Reply} {is : List Item} (end : ℕ) (p : Progress) (b : Book)
       → Runs (complete c end p o b) rs is v → Tells o is v
   unfolding complete record_receipt numbered order_receipt is_rejected
-  tells-complete end p b here = refl
-  tells-complete {v} end p b (then recorded w) =
-      tells-rest o _ (of-order o (some c) Decision.Executed Reason.Ok 0 p b _ (inl refl)) refl (ends (refl, refl)) v w
+  tells-complete {v} end p b w =
+      tells-record o refl
+      (λ rs is w. tells-rest o _ (of-order o (some c) Decision.Executed Reason.Ok 0 p b _ (inl refl)) refl (ends (refl, refl)) v w) w
 
   tells-verify : {v : Interaction} {rs : List Reply} {is : List Item} (end before : ℕ) (b : Book) (seen : Option Observation)
       → Runs (verify c end before o b seen) rs is v → Tells o is v
@@ -232,23 +248,24 @@ module _ (c : Capability) (o : Submission) where
 
   tells-executed : {v : Interaction} {rs : List Reply} {is : List Item} (end before : ℕ) (b : Book)
       → Runs (Observe c.resource b (verify c end before o b)) rs is v → Tells o is v
-  tells-executed end before b here = tt
-  tells-executed {v} end before b (then (observed {o = seen}) w) = tells-later o _ _ v (tells-verify end before b seen w)
+  tells-executed end before b w = tells-observe o (λ seen rs is w. tells-verify end before b seen w) w
 
   tells-dispatch : {v : Interaction} {rs : List Reply} {is : List Item} (end : ℕ) (b : Book) (seen : Option Observation)
       → Runs (dispatch c end o b seen) rs is v → Tells o is v
   unfolding dispatch
   tells-dispatch end b none w = tells-fail _ _ b w
-  tells-dispatch end b (some seen) here = tt
-  tells-dispatch {v} end b (some seen) (then (executed {ok = false}) w) = tells-later o _ _ v (tells-fail _ _ b w)
-  tells-dispatch {v} end b (some seen) (then (executed {ok = true}) w) = tells-later o _ _ v (tells-executed end _ b w)
+  tells-dispatch {v} end b (some seen) w = tells-execute o (λ ok rs is w. go ok _ rs is w) w
+    where
+      go : (ok : Bool) (p : Progress) (rs : List Reply) (is : List Item)
+          → Runs (cond ok (Observe c.resource b (verify c end seen.state o b)) (fail c Reason.Driver p o b)) rs is v → Tells o is v
+      go true p rs is w = tells-executed end _ b w
+      go false p rs is w = tells-fail _ p b w
 
 -- an admitted order is not rejected
 pub tells-admitted : {rs : List Reply} {is : List Item} {v : Interaction} (c : Capability) (l : Lease) (o : Submission) (b : Book)
     → Runs (admit (Admits c l) o b) rs is v → Tells o is v
 unfolding admit
-tells-admitted c l o b here = tt
-tells-admitted {v = v} c l o b (then (observed {o = seen}) w) = tells-later o _ _ v (tells-dispatch c o _ _ seen w)
+tells-admitted c l o b w = tells-observe o (λ seen rs is w. tells-dispatch c o _ _ seen w) w
 
 -- a rejected order tells of it, too
 pub storm-answers : {rs : List Reply} {is : List Item} {b' : Book} {a : Answer} (now : ℕ) (r : Receipt) (b : Book)

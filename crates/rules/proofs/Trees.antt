@@ -9,7 +9,6 @@ use mathlib.Core.Path.{◌≡◌, refl, ap, subst}
 use lib.Dec.{ltb}
 use Rattle.model.specs.declared.Decision.TheVariants as Decision
 use Rattle.model.specs.declared.Reason.{Reason}
-use Rattle.model.specs.declared.Reason.TheVariants as Reason
 use Rattle.model.specs.declared.Receipt.{Receipt}
 use Rattle.rules.specs.Book.{Book}
 use Rattle.rules.specs.With.{with_last_tick}
@@ -18,7 +17,7 @@ use Rattle.rules.specs.Interaction.{Answer, Returned, Interaction, Done, Observe
 use Rattle.rules.specs.Admission.{axes, is_armed, is_stale}
 use Rattle.rules.specs.Lists.{Mem}
 use Rattle.rules.specs.Rules.{record_receipt, fallback, fallbacks, trip, fallback_or_trip, watchdog, staleness, fallback_if, expiries, supervise, tick, exhausted, refresh_state}
-use Rattle.rules.specs.Protocol.{Reply, Item, ItemObserve, ItemExecute, ItemFallback, ItemRecord}
+use Rattle.rules.specs.Protocol.{Reply, Recorded, Item, ItemObserve, ItemExecute, ItemFallback, ItemRecord}
 use Rattle.rules.specs.Way.{Takes, observed, executed, fell_back, recorded, Runs, here, then}
 
 -- The second interaction is the first, with another that E allows in the place of each end; the first hands out only fallback items,
@@ -234,6 +233,7 @@ module _ {E : Book → Answer → Interaction → Type 0} {second : List Reply} 
   pub rest : {Q : Receipt → Type 0} {t u : Interaction} {first : List Reply} {first_items is : List Item}
       → Follows Q E t u → Runs t first first_items (Done b a) → Runs u (first ++ second) is v → Rest E b a second v is
   rest {is = is} (ends {u = u} e) here w = record { next = u; end = e; items = is; left = w; among = λ i m. m }
+  rest (ends e) (then n p) w = elim n [ ]
   rest (falls h) (then (fell_back {ok = ok}) p) (then fell_back w) = further (rest (h ok) p w)
   rest (records q h) (then recorded p) (then recorded w) = further (rest h p w)
 
@@ -245,6 +245,19 @@ Ended P b a u = (u ≡ Done b a) × P a
 
 nothing-taken : {b : Book} {a : Answer} {t : Interaction} {r : Reply} {i : Item} → Takes (Done b a) r i t → ⊥
 nothing-taken n = elim n [ ]
+
+-- a run that passes a record item, and how it goes on from there
+pub record Noted (r : Receipt) (k v : Interaction) (rs : List Reply) (is : List Item) : Type 0 where
+  pub later : List Reply
+  pub later_items : List Item
+  pub replies : rs ≡ Recorded ∷ later
+  pub items : is ≡ ItemRecord r ∷ later_items
+  pub left : Runs k later later_items v
+
+-- a run from a record item to an end passes it
+pub noted : {r : Receipt} {b b' : Book} {a : Answer} {k : Interaction} {rs : List Reply} {is : List Item}
+    → Runs (Record r b k) rs is (Done b' a) → Noted r k (Done b' a) rs is
+noted (then {rs = rs} {is = is} recorded w) = record { later = rs; later_items = is; replies = refl; items = refl; left = w }
 
 -- a run from an end stays there
 pub record Stayed (b : Book) (a : Answer) (rs : List Reply) (is : List Item) (b' : Book) (a' : Answer) : Type 0 where

@@ -5,7 +5,6 @@ use Rattle.std.proofs.Math.Option.{Option, some, none}
 use Rattle.model.specs.declared.Action.{Action}
 use Rattle.model.specs.declared.Bounds.{Bounds}
 use Rattle.model.specs.declared.Decision.{Decision}
-use Rattle.model.specs.declared.Decision.TheVariants as Decision
 use Rattle.model.specs.declared.Receipt.{Receipt}
 use Rattle.model.specs.declared.Replay.{Replay}
 use Rattle.model.specs.declared.Reason.TheVariants as Reason

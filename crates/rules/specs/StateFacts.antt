@@ -5,7 +5,6 @@ use Rattle.std.proofs.Math.Option.{some, none}
 use Rattle.model.specs.declared.Decision.TheVariants as Decision
 use Rattle.model.specs.declared.Lease.{Lease}
 use Rattle.model.specs.declared.Reason.{Reason}
-use Rattle.model.specs.declared.Reason.TheVariants as Reason
 use Rattle.model.specs.declared.Receipt.{Receipt}
 use Rattle.model.specs.declared.RuntimeState.TheVariants as State
 use Rattle.model.specs.Soundness.{axis_used}
