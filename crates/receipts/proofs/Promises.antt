@@ -7,7 +7,7 @@ use native.Mathlib.Omega.{arith}
 use mathlib.Core.Path.{◌≡◌, refl, sym, ap, ◌∙◌}
 use mathlib.Core.Bool.{Bool, true, false, cond}
 use mathlib.Core.List.{List, [], ◌∷◌, ◌++◌, map}
-use mathlib.Core.Option.{Option, none as missing, some}
+use mathlib.Core.Option.{some}
 use lib.Count.{ones}
 use lib.Dec.{ltb}
 use lib.ListN.{length, get_or, set, take, get_elem?, length-set, length-map}

@@ -4,6 +4,8 @@
 // Promises: a push keeps what the rule of 01 says (`keep 64`: a full ring drops its oldest rejection, else its oldest), whatever the slots
 // hold; `place_of` and `receipt` read the receipt at a place from the oldest, or none at or past the count. Each asks the one soundness that
 // `empty` sets up and every push keeps. Rests on `keep` of the crate rules, and on nothing but the language besides.
+#![tactic(auto)]
+
 ghost use Rattle.std.specs.Prelude.{◌≡◌, ◌<◌, ◌≤◌, length};
 ghost use Rattle.std.proofs.Math.ListN.{get_elem?};
 ghost use Rattle.model.specs.Records.{no_receipt};
@@ -16,7 +18,7 @@ ghost use Rattle.receipts.specs.Rings.{Kept, receipts_of, kept_at, Starts, Recor
 use model::{Decision, Presence, Reason, Receipt};
 
 // A circle of 64 places, the oldest at `head`: the slot numbers that stand there are held outside.
-#[derive(Drop)]
+#[derive(Clone, Copy)]
 pub struct Circle {
     pub head: usize,
     pub count: usize,
@@ -67,7 +69,7 @@ impl Circle {
     }
 }
 
-#[derive(Drop)]
+#[derive(Clone, Copy)]
 pub struct Index {
     pub rejected: Circle,
     pub others: Circle,
@@ -76,7 +78,7 @@ pub struct Index {
 }
 
 // The index with one more receipt, the slot that the receipt goes to, and the place of its circle that the slot's number goes to.
-#[derive(Drop)]
+#[derive(Clone, Copy)]
 pub struct Pushed {
     pub index: Index,
     pub slot: usize,
@@ -84,14 +86,14 @@ pub struct Pushed {
 }
 
 // The index with room for one more, and a slot that it does not use.
-#[derive(Drop)]
+#[derive(Clone, Copy)]
 struct Freed {
     index: Index,
     slot: usize,
 }
 
 // Where the slot number of the receipt asked for stands: a place of the rejections, or of the others.
-#[derive(Drop)]
+#[derive(Clone, Copy)]
 pub enum Found {
     Rejected(usize),
     Other(usize),
@@ -206,7 +208,7 @@ pub fn place_of(index: Index, at: usize) -> Found
     }
 }
 
-#[derive(Drop)]
+#[derive(Clone, Copy)]
 pub struct Ring {
     pub index: Index,
     // The slot numbers at the places of the two circles.
@@ -216,7 +218,7 @@ pub struct Ring {
 }
 
 // What stands at a place of the ring: an absent receipt is a blank one.
-#[derive(Drop)]
+#[derive(Clone, Copy)]
 pub struct KeptReceipt {
     pub presence: Presence,
     pub receipt: Receipt,

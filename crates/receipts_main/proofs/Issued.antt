@@ -6,9 +6,9 @@ use native.Mathlib.Omega.{arith}
 use mathlib.Core.Path.{◌≡◌, refl, ap, ◌∙◌}
 use mathlib.Core.Bool.{true}
 use mathlib.Core.List.{List, [], ◌∷◌}
-use lib.Dec.{ltb, eqb}
+use lib.Dec.{ltb}
 use lib.ListN.{length, length-append, get_elem?}
-use borrow.Author.Tests.{lt-ltb, eq-eqb}
+use borrow.Author.Tests.{lt-ltb}
 use Rattle.model.specs.declared.Receipt.{Receipt}
 use Rattle.rules.specs.Receipts.{keep, evict, drop_first_rejected, rejected, is_rejected}
 use Rattle.receipts.specs.declared.Ring.{Ring}
@@ -64,5 +64,5 @@ pub holds_more : (before after : Ring) (l : List Receipt) (n : ℕ) (r : Receipt
 holds_more before after l n r h e s = record { kept = s.kept; keeps = s.keeps ∙ rw (h.keeps, e) }
 
 -- a check of the number at a place, in a ring that keeps a list
-pub shown : (ring : Ring) (l : List Receipt) (place n r : ℕ) → Holds ring l → number l place ≡ n → r ≡ number (receipts_of ring) place → eqb r n ≡ true
-shown ring l place n r h q e = eq-eqb r n (e ∙ ap (λ (k : List Receipt). number k place) h.keeps ∙ q)
+pub shown : (ring : Ring) (l : List Receipt) (place n r : ℕ) → Holds ring l → number l place ≡ n → r ≡ number (receipts_of ring) place → r ≡ n
+shown ring l place n r h q e = e ∙ ap (λ (k : List Receipt). number k place) h.keeps ∙ q

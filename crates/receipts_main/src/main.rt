@@ -1,5 +1,7 @@
 // Case G of 01, run over the crate receipts: 64 receipts, of which number 5 is the only rejection. The next drops 5, and the one after that,
 // with no rejection left, the oldest. Each check is proved from what `receipts` promises, and made when the program runs.
+#![tactic(auto)]
+
 ghost use Rattle.std.specs.Prelude.{◌≡◌};
 ghost use Rattle.std.proofs.Math.ListN.{get_elem?};
 ghost use Rattle.receipts.specs.Rings.{Kept, receipts_of};
@@ -7,6 +9,7 @@ ghost use Rattle.receipts_main.specs.CaseG.{decision_of, receipt_of, number_of, 
 
 use model::{Decision, Reason, Receipt};
 use receipts::Ring;
+use std::process::ExitCode;
 
 fn decision(number: u64) -> Decision
     ensures { result ≡ decision_of number }
@@ -87,17 +90,32 @@ fn sixty_six() -> Ring
     receipts::record(sixty_five(), numbered(66))
 }
 
-fn main() {
+fn main() -> ExitCode {
     let full = filled();
-    check::expect(number_at(full, 4) == 5);
+    let fifth = number_at(full, 4) == 5;
+    prove!(fifth);
     let next = sixty_five();
-    check::expect(receipts::count(next) == 64);
-    check::expect(number_at(next, 0) == 1);
-    check::expect(number_at(next, 3) == 4);
-    check::expect(number_at(next, 4) == 6);
-    check::expect(number_at(next, 63) == 65);
-    check::expect(number_at(next, 64) == 0);
+    let full_again = receipts::count(next) == 64;
+    prove!(full_again);
+    let first = number_at(next, 0) == 1;
+    prove!(first);
+    let before = number_at(next, 3) == 4;
+    prove!(before);
+    let after = number_at(next, 4) == 6;
+    prove!(after);
+    let newest = number_at(next, 63) == 65;
+    prove!(newest);
+    let past = number_at(next, 64) == 0;
+    prove!(past);
     let last = sixty_six();
-    check::expect(number_at(last, 0) == 2);
-    check::expect(number_at(last, 63) == 66);
+    let second = number_at(last, 0) == 2;
+    prove!(second);
+    let end = number_at(last, 63) == 66;
+    prove!(end);
+    let of_next = full_again && first && before && after && newest && past;
+    if fifth && of_next && second && end {
+        ExitCode::SUCCESS
+    } else {
+        ExitCode::FAILURE
+    }
 }

@@ -1,6 +1,8 @@
 // Pushes into the ring of receipts in a loop, as the runtime pushes them: the index by value, the slots and the slot numbers of the circles
 // in place. A static library that tools/speed times beside the Rust's `record`.
 // Promises that the answer is the number of the oldest receipt that the rule of 01 keeps. Rests on `receipts`.
+#![tactic(auto)]
+
 ghost use Rattle.std.specs.Prelude.{◌≡◌};
 ghost use Rattle.receipts_speed.specs.Pushes.{decision_of, numbered_receipt, kept_after, oldest_of};
 

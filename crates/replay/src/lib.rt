@@ -1,6 +1,8 @@
 // The replay ring (runtime.rs, `replay` and `replay_cursor`): owner, action id and receipt number of the last 32 admitted orders.
 // Promises, by the list of the entries from the newest: an empty ring has none; a push puts its entry first and keeps 32; a search
 // answers as 01's `find_entry` does on that list. Rests on `model` for the records and `rules` for `find_entry`.
+#![tactic(auto)]
+
 ghost use Rattle.std.specs.Prelude.{◌≡◌};
 ghost use Rattle.rules.specs.Admission.{find_entry};
 ghost use Rattle.replay.specs.Ring.{list_of, is_hit, receipt_of};
@@ -9,14 +11,14 @@ ghost use Rattle.replay.specs.Promises.{Sound, Emptied, Pushed};
 use model::{Presence, Replay, ReplaySlot};
 
 // Slots from 0 on are written in turn, around the ring; the cursor is the next one.
-#[derive(Drop)]
+#[derive(Clone, Copy)]
 pub struct ReplayRing {
     pub entries: [ReplaySlot; 32],
     pub cursor: usize,
 }
 
 // A search's answer: the receipt number, or nothing.
-#[derive(Drop)]
+#[derive(Clone, Copy)]
 pub enum FoundReceipt {
     At(u64),
     Nothing,

@@ -1,12 +1,9 @@
 -- A ring as the orders fill it. Assumes nothing.
 use Prim.Native.Nat.{ℕ, ◌+◌}
 use mathlib.Core.Path.{◌≡◌, ap, subst, ◌∙◌}
-use mathlib.Core.Bool.{true}
 use mathlib.Core.List.{List, ◌∷◌}
 use native.Mathlib.Numerals.{add-one}
 use native.Mathlib.Omega.{arith}
-use borrow.Author.Tests.{eq-eqb}
-use lib.Dec.{eqb}
 use lib.ListN.{take}
 use lib.Seq.{take-take}
 use Rattle.model.specs.declared.Replay.{Replay}
@@ -44,5 +41,5 @@ pub answered : (id : ℕ) {n r : ℕ} {f : FoundReceipt} {ring : ReplayRing}
     → f ≡ receipt_of (find_entry 7 id (list_of ring))
     → r ≡ number_of f
     → found id ≡ n
-    → eqb r n ≡ true
-answered id full f r n = eq-eqb _ _ (r ∙ ap number_of (f ∙ ap (λ (es : List Replay). receipt_of (find_entry 7 id es)) full.list) ∙ n)
+    → r ≡ n
+answered id full f r n = r ∙ ap number_of (f ∙ ap (λ (es : List Replay). receipt_of (find_entry 7 id es)) full.list) ∙ n

@@ -1,10 +1,13 @@
 // Pushes 33 entries, one more than the replay ring holds: the first is gone, the second and the last are found.
 // Promises that a ring filled with the orders 1 to n holds the last 32 of them; `main` shows what is found. Rests on `replay`.
+#![tactic(auto)]
+
 ghost use Rattle.std.specs.Prelude.{◌≡◌};
 ghost use Rattle.replay_main.specs.Orders.{Filled, number_of};
 
 use model::Replay;
 use replay::{FoundReceipt, ReplayRing};
+use std::process::ExitCode;
 
 // The ring after the orders 1 to `count`.
 fn filled(count: u32) -> ReplayRing
@@ -34,9 +37,17 @@ fn number(found: FoundReceipt) -> u64
     }
 }
 
-fn main() {
+fn main() -> ExitCode {
     let ring = filled(33);
-    check::expect(number(ring.find(7, 1)) == 0);
-    check::expect(number(ring.find(7, 2)) == 102);
-    check::expect(number(ring.find(7, 33)) == 133);
+    let first = number(ring.find(7, 1)) == 0;
+    prove!(first);
+    let second = number(ring.find(7, 2)) == 102;
+    prove!(second);
+    let last = number(ring.find(7, 33)) == 133;
+    prove!(last);
+    if first && second && last {
+        ExitCode::SUCCESS
+    } else {
+        ExitCode::FAILURE
+    }
 }
