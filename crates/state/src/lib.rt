@@ -2,6 +2,8 @@
 // made of. A decision takes parts and looked-up elements by value and says what is to be stored; specs/State says what the parts stand for,
 // specs/Stores what storing does, and each function here promises that this is what the rules say, for any tables that hold what was shown.
 // Rests on `model` for the records.
+#![tactic(auto)]
+
 ghost use Rattle.std.specs.Prelude.{◌≤◌, ◌<◌, min, true, cond, ◌≡◌, eqb};
 ghost use Rattle.std.proofs.Math.Option.{Option};
 ghost use Rattle.model.specs.Reasons.{number};
@@ -13,13 +15,13 @@ ghost use Rattle.rules.specs.Interaction.{Done, Returned, Polled, Succeeded, Ref
 ghost use Rattle.rules.specs.Receipts.{axis_or255, bump, event, is_fallback, numbered, order_receipt};
 ghost use Rattle.rules.specs.Rules.{exhausted, lease_id, lease_owner, refreshed as refreshed_state, tripped as tripped_state, fallback, trip};
 ghost use Rattle.state.specs.Axes.{first_used};
-ghost use Rattle.state.specs.State.{lease_in, Tables, book_of, progress_of, waits, after_tick, after_trip, after_fallback, InBounds};
+ghost use Rattle.state.specs.State.{lease_in, Tables, book_of, progress_of, waits, after_tick, after_trip as what_follows, after_fallback, InBounds};
 ghost use Rattle.state.specs.Stores.{course_of, without, soonest_with, Settles, Takes};
 
 use model::{Config, Decision, LeaseSlot, Presence, Reason, Receipt, RuntimeState, Submission};
 
 // The call in hand.
-#[derive(Drop)]
+#[derive(Clone, Copy)]
 pub enum CallKind {
     Tick,
     UpdateState,
@@ -31,7 +33,7 @@ pub enum CallKind {
 }
 
 // The call in hand with its numbers: what its opening tick goes on with. Only those of its kind are read.
-#[derive(Drop)]
+#[derive(Clone, Copy)]
 pub struct Pending {
     pub kind: CallKind,
     pub flags: u32,
@@ -42,7 +44,7 @@ pub struct Pending {
 
 // What follows the fallback in hand: the next axis of a trip, of the expiries, of the flags' preconditions or of a recovery; or the end of
 // a cancel.
-#[derive(Drop)]
+#[derive(Clone, Copy)]
 pub enum AfterFallback {
     Trip,
     Expiry,
@@ -53,7 +55,7 @@ pub enum AfterFallback {
 
 // What follows the trip in hand: what the opening tick goes on with (`Tick`, after its two returns), the rest of the tick after its
 // watchdog, staleness or an expiry; the rest of the preconditions; or an answer.
-#[derive(Drop)]
+#[derive(Clone, Copy)]
 pub enum AfterTrip {
     Tick,
     Watchdog,
@@ -67,7 +69,7 @@ pub enum AfterTrip {
 }
 
 // The fallback in hand: its item, its time, and what follows it.
-#[derive(Drop)]
+#[derive(Clone, Copy)]
 pub struct Falling {
     pub time: u64,
     pub axis: u8,
@@ -82,7 +84,7 @@ pub struct Falling {
 
 // The lease that the fallback in hand took from its axis, and its owner; 0 where there was none. And whether the driver succeeded, which is
 // known while the receipt's reply is awaited.
-#[derive(Drop)]
+#[derive(Clone, Copy)]
 pub struct Revoked {
     pub lease_id: u64,
     pub owner: u64,
@@ -90,7 +92,7 @@ pub struct Revoked {
 }
 
 // The order in hand: the end of a stream, where its capability stands, and the state observed before its execution.
-#[derive(Drop)]
+#[derive(Clone, Copy)]
 pub struct Carrying {
     pub end: u64,
     pub at: usize,
@@ -98,7 +100,7 @@ pub struct Carrying {
 }
 
 // What follows the receipt in hand.
-#[derive(Drop)]
+#[derive(Clone, Copy)]
 pub enum AfterRecord {
     Fallback,
     Lease,
@@ -108,7 +110,7 @@ pub enum AfterRecord {
 }
 
 // Which reply is awaited.
-#[derive(Drop)]
+#[derive(Clone, Copy)]
 pub enum Awaited {
     Nothing,
     ObserveBefore,
@@ -118,7 +120,7 @@ pub enum Awaited {
     Record,
 }
 
-#[derive(Drop)]
+#[derive(Clone, Copy)]
 pub struct Waiting {
     pub awaited: Awaited,
     pub after_record: AfterRecord,
@@ -132,13 +134,13 @@ impl Waiting {
 }
 
 // An enum that is stored to stands alone in a struct.
-#[derive(Drop)]
+#[derive(Clone, Copy)]
 pub struct Mode {
     pub state: RuntimeState,
 }
 
 // What a start sets, and nothing alters.
-#[derive(Drop)]
+#[derive(Clone, Copy)]
 pub struct Fixed {
     pub config: Config,
     pub boot_id: u64,
@@ -148,7 +150,7 @@ pub struct Fixed {
 }
 
 // The numbers of the book.
-#[derive(Drop)]
+#[derive(Clone, Copy)]
 pub struct Numbers {
     pub next_receipt: u64,
     pub next_lease: u64,
@@ -165,14 +167,14 @@ pub struct Numbers {
 }
 
 // The reason of a refusal, while it is the answer.
-#[derive(Drop)]
+#[derive(Clone, Copy)]
 pub struct Why {
     pub reason: Reason,
 }
 
 // What a start, a call or a reply gives: its answer, the next item (`Item`), or a refusal: 111, 113, 112, or that there is no runtime. A lease, a
 // receipt and a refusal's reason stand in the state. Then that a start is over, and the five ways in which it is refused: 101 to 105.
-#[derive(Drop)]
+#[derive(Clone, Copy)]
 pub enum Answer {
     Returned,
     Unraised,
@@ -195,7 +197,7 @@ pub enum Answer {
 }
 
 // Where a call goes: to the fallback of an axis, to its answer, or on to what follows its opening tick.
-#[derive(Drop)]
+#[derive(Clone, Copy)]
 pub enum Way {
     Falls,
     Ends,
@@ -203,7 +205,7 @@ pub enum Way {
 }
 
 // A course to follow: the fallback, where one is to be made, and the numbers as they are to be. The counters of receipts and leases stay.
-#[derive(Drop)]
+#[derive(Clone, Copy)]
 pub struct Course {
     pub falling: Falling,
     pub last_tick: u64,
@@ -385,7 +387,7 @@ pub fn event_receipt(
 }
 
 // How far the driver came with an order.
-#[derive(Drop)]
+#[derive(Clone, Copy)]
 pub struct Progress {
     pub dispatched: bool,
     pub pre_state: u32,
@@ -585,7 +587,7 @@ pub fn trips(
     after_trip: AfterTrip,
     at: u8,
 ) -> Course
-    ensures { Settles result × (at < 8 → Takes fixed numbers result (λ b q. trip reason time b (after_trip after_trip at time q))) }
+    ensures { Settles result × (at < 8 → Takes fixed numbers result (λ b q. trip reason time b (what_follows after_trip at time q))) }
 {
     let used = fixed.used;
     let mode = numbers.mode;

@@ -6,8 +6,7 @@ use lib.Dec.{eqb, leb}
 use Rattle.rules.specs.Admission.{is_stale}
 use Rattle.state.specs.State.{book_of}
 use borrow.Author.Rules.{rules}
-use Rattle.state.proofs.is_stale.Statement.{statement}
-use Rattle.state.proofs.is_stale.Tie as tie
+use Rattle.state.proofs.is_stale.Goals as goal
 
 none_left : (n : ℕ) → eqb n 0 ≡ leb n 0
 none_left zero = refl
@@ -16,13 +15,10 @@ none_left (suc n) = ne_eqb (suc n) 0 (λ e. absurd (omega arith)) ∙ sym (lt-le
 before-stamp : (ttl now stamp : ℕ) → now < stamp → eqb ttl 0 ≡ leb ttl (now - stamp)
 before-stamp ttl now stamp h = let z : now - stamp ≡ 0 = omega arith in rw z (none_left ttl)
 
-returns : tie.Need-returns
+pub returns-then-now-numbers : goal.returns-then-now-numbers
 unfolding is_stale book_of
-returns c = λ t. before-stamp _ _ _ c.if1.true
+returns-then-now-numbers c = λ t. before-stamp _ _ _ c.if-now-numbers.true
 
-returns-2 : tie.Need-returns-2
+pub returns : goal.returns
 unfolding is_stale book_of
-returns-2 c = λ t. refl
-
-pub is-stale-spec : {M : Type 1} → statement M
-is-stale-spec = tie.close (tie.spec (λ c. search rules) returns returns-2)
+returns c = λ t. refl

@@ -1,0 +1,6 @@
+use Rattle.state.proofs.Courses.{goes-on-so}
+use borrow.Author.Rules.{rules}
+use Rattle.state.proofs.goes_on.Goals as goal
+
+pub returns : goal.returns
+returns c = let a = c.args in goes-on-so a.numbers a.falling c.course_of.ensures

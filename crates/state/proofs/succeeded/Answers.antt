@@ -1,0 +1,6 @@
+use Rattle.state.proofs.Courses.{succeeds-so}
+use borrow.Author.Rules.{rules}
+use Rattle.state.proofs.succeeded.Goals as goal
+
+pub returns : goal.returns
+returns c = let a = c.args in succeeds-so a.numbers a.falling c.course_of.ensures
