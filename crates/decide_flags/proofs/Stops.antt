@@ -1,27 +1,19 @@
 -- The two stops, and what a poll finds. Assumes nothing.
 use Prim.Native.Nat.{ℕ, max}
-use mathlib.Core.Bool.{true, false, false≢true}
-use mathlib.Core.Path.{◌≡◌, refl, sym, ◌∙◌}
-use borrow.Author.Tests.{eq-eqb, ne_eqb}
+use mathlib.Core.Bool.{true}
+use mathlib.Core.Path.{◌≡◌, refl}
 use lib.Bits.{bit_or}
 use Rattle.model.specs.declared.Reason.TheVariants as Reason
-use Rattle.rules.specs.Book.{Book}
 use Rattle.rules.specs.Interaction.{Done, Polled}
-use Rattle.rules.specs.Protocol.{Idle, PollEstop, begin, proceed}
-use Rattle.rules.specs.Rules.{trip, stop_time, masked, emergency_stop, poll_estop}
+use Rattle.rules.specs.Rules.{trip, stop_time, masked, emergency_stop}
 use Rattle.rules.specs.With.{with_flags, with_last_tick, with_estop_seen}
-use Rattle.state.specs.State.{Asked, Hand, State, book_of, book_in, waits, after_trip, phase_at, phase_of, output_of, reaction_of}
+use Rattle.state.specs.State.{book_of, after_trip}
 use Rattle.state.specs.Stores.{Takes}
 use Rattle.state.specs.declared.AfterTrip.{AfterTrip}
-use Rattle.state.specs.declared.AfterTrip.TheVariants as AfterTrip
-use Rattle.state.specs.declared.Answer.TheVariants as Answer
-use Rattle.state.specs.declared.Awaited.{Awaited}
-use Rattle.state.specs.declared.Awaited.TheVariants as Awaited
 use Rattle.state.specs.declared.Course.{Course}
 use Rattle.state.specs.declared.Fixed.{Fixed}
 use Rattle.state.specs.declared.Numbers.{Numbers}
 use Rattle.state.proofs.Courses.{SameCounts, sound-from, leads-from}
-use Rattle.state.proofs.Turns.{call-waits, call-begins}
 
 abbrev stopping : ℕ → ℕ → Numbers → Numbers
 stopping flags time n =

@@ -1,5 +1,5 @@
 -- What the decisions on flags and stops are shown.
-use Rattle.std.specs.Prelude.{ℕ, true, ◌≡◌}
+use Rattle.std.specs.Prelude.{ℕ, ◌≡◌}
 use Rattle.state.specs.Axes.{first_forbidden}
 use Rattle.state.specs.State.{Tables}
 use Rattle.state.specs.declared.Numbers.{Numbers}

@@ -1,6 +1,8 @@
 // New flags, the two stops and the local recovery, by value (runtime.rs: `update_state` to `recover_local`), after their opening tick. Each
 // promises that the course that it gives leads where the rule does, in any tables that hold what was shown (state, specs/Stores). Rests on
 // `state` for the parts and the courses.
+#![tactic(auto)]
+
 ghost use Rattle.std.specs.Prelude.{ℕ, ◌≤◌, true, not, ◌≡◌, eqb};
 ghost use Rattle.model.specs.Words.{permits};
 ghost use Rattle.rules.specs.Admission.{holds_of};
@@ -8,7 +10,7 @@ ghost use Rattle.rules.specs.Interaction.{Done, Returned, Polled};
 ghost use Rattle.rules.specs.Rules.{preconditions as preconditions_rule, sense, stop_time, emergency_stop, recoveries as recoveries_rule, recover};
 ghost use Rattle.rules.specs.With.{with_estop_seen};
 ghost use Rattle.state.specs.Axes.{axes_from, used_from};
-ghost use Rattle.state.specs.State.{active_in, Tables, book_of, flags_end, after_trip, InBounds};
+ghost use Rattle.state.specs.State.{active_in, Tables, book_of, flags_end, after_trip as what_follows, InBounds};
 ghost use Rattle.state.specs.Stores.{Settles, Takes, TakesWhere};
 ghost use Rattle.decide_flags.specs.Flags.{ShowsForbidden, stamped};
 
@@ -103,7 +105,7 @@ pub fn is_same(numbers: Numbers, flags: u32, time: u64) -> bool
 
 // The larger time, the mask in the flags, then trip 11 at that time.
 pub fn stopped(fixed: Fixed, numbers: Numbers, time: u64, after_trip: AfterTrip) -> Course
-    ensures { Settles result × (Takes fixed numbers result (λ b q. emergency_stop time b (after_trip after_trip 0 (stop_time time b) q))) }
+    ensures { Settles result × (Takes fixed numbers result (λ b q. emergency_stop time b (what_follows after_trip 0 (stop_time time b) q))) }
 {
     let config = fixed.config;
     let mut next = numbers;

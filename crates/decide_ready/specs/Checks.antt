@@ -4,10 +4,8 @@ use Rattle.std.proofs.Math.Option.{Option, some, none}
 use Rattle.model.specs.declared.Reason.{Reason}
 use Rattle.rules.specs.Admission as Admission
 use Rattle.decide_ready.specs.declared.Check.{Check}
-use Rattle.decide_ready.specs.declared.Check.TheVariants as Check
 use Rattle.decide_ready.specs.declared.Ruling.{Ruling}
 use Rattle.decide_ready.specs.declared.Verdict.{Verdict}
-use Rattle.decide_ready.specs.declared.Verdict.TheVariants as Verdict
 
 -- the answer for the reason of the first check that fails
 abbrev pub check_of : Option Reason → Check

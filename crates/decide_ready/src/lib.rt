@@ -1,5 +1,7 @@
 // Readiness, and what a check answers (runtime.rs, `ready`). Promises: the reason of the first of the rules' checks that fails. Rests on
 // `state` for the parts.
+#![tactic(auto)]
+
 ghost use Rattle.std.specs.Prelude.{◌≡◌};
 ghost use Rattle.rules.specs.Admission.{first_failing, is_estopped, is_faulted, ready as readiness};
 ghost use Rattle.state.specs.State.{Tables, book_of};
@@ -9,20 +11,20 @@ use model::{Reason, RuntimeState};
 use state::{Fixed, Numbers, is_stale};
 
 // All passed, or the reason of the first that failed.
-#[derive(Drop)]
+#[derive(Clone, Copy)]
 pub enum Check {
     Passed,
     Failed(Reason),
 }
 
-#[derive(Drop)]
+#[derive(Clone, Copy)]
 pub enum Verdict {
     Passed,
     Failed,
 }
 
 // The same, with the reason beside: a call goes its way by the verdict alone.
-#[derive(Drop)]
+#[derive(Clone, Copy)]
 pub struct Ruling {
     pub verdict: Verdict,
     pub reason: Reason,

@@ -1,6 +1,8 @@
 // The opening tick of a call, by value (runtime.rs: `tick`): what it does, given the first axis whose lease or order is over; and whether it
 // finds nothing to do. Each promises that the course that it gives leads where the rule does, in any tables that hold what was shown
 // (state, specs/Stores). Rests on `state` for the parts and the courses.
+#![tactic(auto)]
+
 ghost use Rattle.std.specs.Prelude.{ℕ, min, true, cond, ◌≡◌, leb};
 ghost use Rattle.model.specs.declared.Reason.TheVariants.{LeaseExpired, StreamExpired};
 ghost use Rattle.rules.specs.Admission.{axes, holds_of, is_some};
@@ -177,13 +179,13 @@ pub fn opening_tick(
 }
 
 // How a call begins: its tick is quiet and leaves this state, or it is not.
-#[derive(Drop)]
+#[derive(Clone, Copy)]
 pub enum Begun {
     Quiet,
     Busy,
 }
 
-#[derive(Drop)]
+#[derive(Clone, Copy)]
 pub struct Opening {
     pub begun: Begun,
     pub mode: Mode,

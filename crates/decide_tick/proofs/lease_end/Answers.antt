@@ -1,0 +1,10 @@
+use Rattle.decide_tick.specs.Ticks.{lease_end}
+use Rattle.decide_tick.proofs.lease_end.Goals as goal
+
+pub returns-in-Absent : goal.returns-in-Absent
+unfolding lease_end
+returns-in-Absent c = simp c.in-Absent.is
+
+pub returns-in-Present : goal.returns-in-Present
+unfolding lease_end
+returns-in-Present c = simp c.in-Present.is
