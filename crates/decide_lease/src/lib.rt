@@ -1,6 +1,8 @@
 // Leases, by value (runtime.rs: `acquire`, `renew`, `cancel`), after their opening tick: the checks, and what a grant, a renewal and a cancel
 // leave to be stored. Each promises that this is what the rule says, in any tables that hold what was shown (specs/Leases; state,
 // specs/Stores). Rests on `state` for the parts and the courses, and on `decide_ready` for readiness.
+#![tactic(auto)]
+
 ghost use Rattle.std.specs.Prelude.{ℕ, ◌+◌, ◌≤◌, ◌<◌, ◌^◌, cond, ◌≡◌, eqb, leb, get_or, drop};
 ghost use Rattle.std.proofs.Math.Option.{none};
 ghost use Rattle.std.specs.Int.Bits.{bit_or};
@@ -150,7 +152,7 @@ fn new_lease(request: LeaseRequest, id: u64, now: u64) -> Lease
 }
 
 // What a grant leaves to be stored, its receipt last.
-#[derive(Drop)]
+#[derive(Clone, Copy)]
 pub struct Granting {
     pub held: u8,
     pub soonest: u64,
@@ -264,7 +266,7 @@ pub fn renew_check(
 }
 
 // What a renewal leaves to be stored, its receipt last.
-#[derive(Drop)]
+#[derive(Clone, Copy)]
 pub struct Renewing {
     pub soonest: u64,
     pub expires_at: u64,

@@ -1,6 +1,8 @@
 // An order, by value (runtime.rs: `validate`, `submit`), after its opening tick: its checks, and what a rejection and an admission leave to
 // be stored. Each promises that this is what the rule says, in any tables that hold what was shown (specs/Orders; state, specs/Stores).
 // Rests on `state` for the parts and the receipts, and on `decide_ready` for readiness.
+#![tactic(auto)]
+
 ghost use Rattle.std.specs.Prelude.{◌≤◌, Bool, true, cond, ◌≡◌};
 ghost use Rattle.std.proofs.Math.Option.{some, none};
 ghost use Rattle.model.specs.declared.Presence.TheVariants.{Present};
@@ -286,7 +288,7 @@ fn bump_rejections(n: u16) -> u16
 }
 
 // What a rejection leaves to be stored, its receipt last.
-#[derive(Drop)]
+#[derive(Clone, Copy)]
 pub struct Rejecting {
     pub invalid_count: u16,
     pub receipt: Receipt,
@@ -338,7 +340,7 @@ fn stream_end(lease: Lease, submission: Submission) -> u64
 }
 
 // What an admission leaves to be stored, but for the sequence.
-#[derive(Drop)]
+#[derive(Clone, Copy)]
 pub struct Admitting {
     pub end: u64,
     pub entry: Replay,

@@ -4,29 +4,25 @@ use Rattle.state.specs.State.{book_of, after_fallback_of}
 use Rattle.state.proofs.Courses.{leads-to}
 use Rattle.decide_lease.proofs.Held.{held-at, held-nowhere}
 use borrow.Author.Rules.{rules}
-use Rattle.decide_lease.proofs.canceled.Statement.{statement}
-use Rattle.decide_lease.proofs.canceled.Tie as tie
+use Rattle.decide_lease.proofs.canceled.Goals as goal
 
-returns : tie.Need-returns
+pub returns-then-axis-lt8 : goal.returns-then-axis-lt8
 unfolding canceled after_fallback_of book_of
-returns c = (
+returns-then-axis-lt8 c = (
   c.falls.ensures.0,
   λ f owner id inside t q h s shown.
-      let a = c.before.before.args in
+      let a = c.args in
       leads-to (ap (λ o. canceled o a.time (book_of f a.numbers t)) (sym (held-at owner id (book_of f a.numbers t) a.axis shown (search rules))))
       (c.falls.ensures.1 f (record { axis = search rules; at = search rules }) t q h s),
 )
 
-returns-2 : tie.Need-returns-2
+pub returns : goal.returns
 unfolding canceled book_of
-returns-2 c = (
+returns c = (
   c.refused.ensures.0,
   λ f owner id inside t q h s shown.
-      let a = c.before.before.args in
+      let a = c.args in
       leads-to
       (ap (λ o. canceled o a.time (book_of f a.numbers t)) (sym (held-nowhere owner id (book_of f a.numbers t) a.axis shown (search rules))))
       (c.refused.ensures.1 f inside t q h s),
 )
-
-pub canceled-spec : {M : Type 1} → statement M
-canceled-spec = tie.close (tie.spec (λ c κs. search rules) returns (λ c κs. search rules) returns-2)
