@@ -14,7 +14,6 @@ use Rattle.model.specs.declared.ExecutionClass.{ExecutionClass}
 use Rattle.model.specs.declared.ExecutionClass.TheVariants.{Stream, Discrete, Control}
 use Rattle.model.specs.declared.Lease.{Lease}
 use Rattle.model.specs.declared.Reason.{Reason}
-use Rattle.model.specs.declared.Reason.TheVariants as Reason
 use Rattle.model.specs.declared.Receipt.{Receipt}
 use Rattle.model.specs.declared.Submission.{Submission}
 use Rattle.rules.specs.Admission.{is_some}

@@ -8,9 +8,7 @@ use Rattle.rules.specs.Protocol.{Replies, Reaction, proceed, replied, resume, re
 use Rattle.rules.specs.Protocol as Protocol
 use Rattle.rules.specs.Rules.{fail, dispatch, verify, verified, storm}
 use Rattle.state.specs.declared.AfterRecord.{AfterRecord}
-use Rattle.state.specs.declared.AfterRecord.TheVariants as AfterRecord
 use Rattle.state.specs.declared.Awaited.{Awaited}
-use Rattle.state.specs.declared.Awaited.TheVariants as Awaited
 use Rattle.state.specs.State.{Hand, State, state, book_of, book_in, after_executed, after_record_of, answered_at, carries, item_at, phase_at, phase_of, output_of, reaction_of, InBounds, Carried, Sound}
 use Rattle.decide_reply.specs.declared.Observed.{Observed}
 use Rattle.decide_reply.specs.declared.OnExecuted.TheVariants as OnExecuted

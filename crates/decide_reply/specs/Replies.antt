@@ -5,7 +5,6 @@ use Rattle.model.specs.declared.Observation.{Observation}
 use Rattle.model.specs.declared.Presence.{Presence}
 use Rattle.model.specs.declared.Presence.TheVariants.{Absent, Present}
 use Rattle.model.specs.declared.Reason.{Reason}
-use Rattle.model.specs.declared.Reason.TheVariants as Reason
 use Rattle.model.specs.declared.Receipt.{Receipt}
 use Rattle.rules.specs.Interaction.{Done, Submitted}
 use Rattle.rules.specs.Protocol as Protocol
@@ -17,20 +16,15 @@ use Rattle.state.specs.Stores.{awaiting, recorded}
 use Rattle.state.specs.declared.AfterRecord.TheVariants as AfterRecord
 use Rattle.state.specs.declared.Answer.TheVariants as Answer
 use Rattle.state.specs.declared.Awaited.{Awaited}
-use Rattle.state.specs.declared.Awaited.TheVariants as Awaited
 use Rattle.state.specs.declared.Numbers.{Numbers}
 use Rattle.state.specs.declared.Revoked.{Revoked}
 use Rattle.state.specs.declared.Waiting.{Waiting}
 use Rattle.decide_reply.specs.declared.Completing.{Completing}
 use Rattle.decide_reply.specs.declared.Observed.{Observed}
 use Rattle.decide_reply.specs.declared.OnExecuted.{OnExecuted}
-use Rattle.decide_reply.specs.declared.OnExecuted.TheVariants as OnExecuted
 use Rattle.decide_reply.specs.declared.OnFellBack.{OnFellBack}
-use Rattle.decide_reply.specs.declared.OnFellBack.TheVariants as OnFellBack
 use Rattle.decide_reply.specs.declared.OnObserved.{OnObserved}
-use Rattle.decide_reply.specs.declared.OnObserved.TheVariants as OnObserved
 use Rattle.decide_reply.specs.declared.OnRecorded.{OnRecorded}
-use Rattle.decide_reply.specs.declared.OnRecorded.TheVariants as OnRecorded
 
 -- the reply to an observation; none where the driver failed
 abbrev pub observation_if : Presence → Observation → Option Observation

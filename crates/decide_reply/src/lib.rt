@@ -1,6 +1,8 @@
 // The driver's replies, by value (runtime.rs: the rest of `submit`, `fallback` and `record` after each driver call): what a reply goes on
 // with, and what it leaves to be stored. Each promises that this is what the rule says (specs/Replies). Rests on `state` for the parts and
 // the receipts.
+#![tactic(auto)]
+
 ghost use Rattle.std.specs.Prelude.{Bool, true, cond, ◌≡◌};
 ghost use Rattle.std.proofs.Math.Option.{some};
 ghost use Rattle.model.specs.declared.Reason.TheVariants.{Driver};
@@ -24,7 +26,7 @@ use state::{
 };
 
 // The reply to an observation; absent where the driver failed.
-#[derive(Drop)]
+#[derive(Clone, Copy)]
 pub struct Observed {
     pub presence: Presence,
     pub observation: Observation,
@@ -51,7 +53,7 @@ fn verified(verification: Verification, parameters: [i32; 2], seen: Observation)
 }
 
 // What an observation goes on with: it is refused (112, 113), the order is executed, complete or failed.
-#[derive(Drop)]
+#[derive(Clone, Copy)]
 pub enum OnObserved {
     NoReply,
     Other,
@@ -214,7 +216,7 @@ fn active_until(capability: Capability, end: u64) -> ActiveSlot
 }
 
 // What an executed order leaves to be stored, its receipt last.
-#[derive(Drop)]
+#[derive(Clone, Copy)]
 pub struct Completing {
     pub soonest: u64,
     pub active: ActiveSlot,
@@ -262,7 +264,7 @@ pub fn completed(
 // executed ---------------------------------------------------------------------------------------------------------------
 
 // What the reply to an execution goes on with: it is refused (112, 113), the order is observed again, or failed.
-#[derive(Drop)]
+#[derive(Clone, Copy)]
 pub enum OnExecuted {
     NoReply,
     Other,
@@ -310,7 +312,7 @@ pub fn unexecuted(pre_state: u32) -> Progress
 // fell_back --------------------------------------------------------------------------------------------------------------
 
 // What the reply to a fallback goes on with: it is refused (112, 113), or told in a receipt.
-#[derive(Drop)]
+#[derive(Clone, Copy)]
 pub enum OnFellBack {
     NoReply,
     Other,
@@ -361,7 +363,7 @@ pub fn told(fixed: Fixed, numbers: Numbers, falling: Falling, revoked: Revoked, 
 // recorded ---------------------------------------------------------------------------------------------------------------
 
 // What the reply to a receipt goes on with: it is refused (112, 113), ends the call, trips, or resumes what the fallback was for.
-#[derive(Drop)]
+#[derive(Clone, Copy)]
 pub enum OnRecorded {
     NoReply,
     Other,

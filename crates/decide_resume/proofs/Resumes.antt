@@ -14,7 +14,6 @@ use Rattle.state.specs.Axes.{up_from, axes_from, first_used}
 use Rattle.state.specs.State.{Tables, book_of, after_tick, tick_end, flags_end, after_trip, after_fallback_of, after_fallback, InBounds}
 use Rattle.state.specs.Stores.{Takes, TakesWhere}
 use Rattle.state.specs.declared.AfterFallback.{AfterFallback}
-use Rattle.state.specs.declared.AfterFallback.TheVariants as AfterFallback
 use Rattle.state.specs.declared.AfterTrip.TheVariants as AfterTrip
 use Rattle.state.specs.declared.Course.{Course}
 use Rattle.state.specs.declared.Falling.{Falling}

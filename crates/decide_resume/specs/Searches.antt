@@ -3,15 +3,12 @@ use Rattle.std.specs.Prelude.{ℕ, ◌+◌, ◌≡◌}
 use Rattle.model.specs.declared.LeaseSlot.{LeaseSlot}
 use Rattle.state.specs.State.{Tables}
 use Rattle.state.specs.declared.AfterFallback.{AfterFallback}
-use Rattle.state.specs.declared.AfterFallback.TheVariants as AfterFallback
 use Rattle.state.specs.declared.AfterTrip.{AfterTrip}
-use Rattle.state.specs.declared.AfterTrip.TheVariants as AfterTrip
 use Rattle.state.specs.declared.Falling.{Falling}
 use Rattle.decide_tick.specs.Ticks.{ShowsDue}
 use Rattle.decide_flags.specs.Flags.{ShowsForbidden}
 use Rattle.decide_resume.specs.declared.Search.{Search}
 use Rattle.decide_resume.specs.declared.Sought.{Sought}
-use Rattle.decide_resume.specs.declared.Sought.TheVariants as Sought
 
 -- what a search says of the tables: the first axis from one on that is due, or whose order the flags forbid
 unfoldable pub ShowsSought : Sought → ℕ → ℕ → ℕ → ℕ → LeaseSlot → Tables → Type 0

@@ -1,6 +1,8 @@
 // What follows a fallback and its receipt, by value (runtime.rs: the rest of `trip`, `tick`, `update_state`, `recover_local` and `cancel` after
 // each fallback). Each promises that the course that it gives leads where the stored place denotes (state, specs/State), in any tables that
 // hold what was shown. Rests on `decide_tick` and `decide_flags` for the loops that are taken up again, and on `state` for the courses.
+#![tactic(auto)]
+
 ghost use Rattle.std.specs.Prelude.{◌≤◌, ◌≡◌, Bool};
 ghost use Rattle.state.specs.State.{Tables, after_trip, after_fallback_of, after_fallback, InBounds};
 ghost use Rattle.state.specs.Stores.{Takes, TakesWhere};
@@ -17,7 +19,7 @@ use state::{
 };
 
 // What is sought among the axes before a call goes on: one that is due, one whose order the flags forbid, or none.
-#[derive(Drop)]
+#[derive(Clone, Copy)]
 pub enum Sought {
     Due,
     Forbidden,
@@ -25,7 +27,7 @@ pub enum Sought {
 }
 
 // .. and from which axis on.
-#[derive(Drop)]
+#[derive(Clone, Copy)]
 pub struct Search {
     pub sought: Sought,
     pub from: u8,
