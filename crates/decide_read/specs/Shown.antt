@@ -16,13 +16,11 @@ use Rattle.model.specs.declared.Snapshot.{Snapshot}
 use Rattle.model.specs.Records.{no_lease, no_capability, no_receipt}
 use Rattle.receipts.specs.Indexes.{Points}
 use Rattle.receipts.specs.declared.Found.{Found}
-use Rattle.receipts.specs.declared.Found.TheVariants as Found
 use Rattle.receipts.specs.declared.Index.{Index}
 use Rattle.rules.specs.Protocol.{ItemObserve, ItemExecute, ItemFallback, ItemRecord, Value, Output, Shows, NoRuntime, OfState, OfNumber, OfConfig, OfSnapshot, OfLease, OfCapability, OfReceipt}
 use Rattle.rules.specs.Protocol as Protocol
 use Rattle.state.specs.State.{lease_in}
 use Rattle.state.specs.declared.Awaited.{Awaited}
-use Rattle.state.specs.declared.Awaited.TheVariants as Awaited
 use Rattle.state.specs.declared.Falling.{Falling}
 use Rattle.state.specs.declared.Fixed.{Fixed}
 use Rattle.state.specs.declared.Numbers.{Numbers}
@@ -30,7 +28,6 @@ use Rattle.decide_read.specs.declared.CapabilityShown.{CapabilityShown}
 use Rattle.decide_read.specs.declared.ConfigShown.{ConfigShown}
 use Rattle.decide_read.specs.declared.ItemShown.{ItemShown}
 use Rattle.decide_read.specs.declared.ItemKind.{ItemKind}
-use Rattle.decide_read.specs.declared.ItemKind.TheVariants as ItemKind
 use Rattle.decide_read.specs.declared.LeaseShown.{LeaseShown}
 use Rattle.decide_read.specs.declared.Noted.{Noted}
 use Rattle.decide_read.specs.declared.NumberShown.{NumberShown}

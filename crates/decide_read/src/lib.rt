@@ -1,6 +1,8 @@
 // What a host is shown, by value: the readings, the awaited item and what was answered. Until a start has ended, and after a refused one, every reading
 // says that there is no runtime; what is absent is blank, whatever stands in its slot. Rests on `decide_start` for the start's stage, on `state` for
 // the parts and on `receipts` for the places of the ring.
+#![tactic(auto)]
+
 ghost use Rattle.std.specs.Prelude.{◌<◌, ◌+◌, ◌≡◌};
 ghost use Rattle.model.specs.Records.{no_lease};
 ghost use Rattle.receipts.specs.Indexes.{Numbered};
@@ -16,39 +18,39 @@ use receipts::{Found, Index, place_of};
 use state::{AfterRecord, Awaited, Falling, Fixed, Mode, Numbers, Waiting};
 
 // A number, where there is a runtime.
-#[derive(Drop)]
+#[derive(Clone, Copy)]
 pub struct NumberShown {
     pub runtime: Presence,
     pub number: u64,
 }
 
-#[derive(Drop)]
+#[derive(Clone, Copy)]
 pub struct StateShown {
     pub runtime: Presence,
     pub state: RuntimeState,
 }
 
-#[derive(Drop)]
+#[derive(Clone, Copy)]
 pub struct ConfigShown {
     pub runtime: Presence,
     pub config: Config,
 }
 
-#[derive(Drop)]
+#[derive(Clone, Copy)]
 pub struct SnapshotShown {
     pub runtime: Presence,
     pub snapshot: Snapshot,
 }
 
 // The lease of an axis, where there is one.
-#[derive(Drop)]
+#[derive(Clone, Copy)]
 pub struct LeaseShown {
     pub runtime: Presence,
     pub slot: LeaseSlot,
 }
 
 // The record at a place of the list, where there is one.
-#[derive(Drop)]
+#[derive(Clone, Copy)]
 pub struct CapabilityShown {
     pub runtime: Presence,
     pub presence: Presence,
@@ -56,7 +58,7 @@ pub struct CapabilityShown {
 }
 
 // The receipt at a place from the oldest, where there is one.
-#[derive(Drop)]
+#[derive(Clone, Copy)]
 pub struct ReceiptShown {
     pub runtime: Presence,
     pub presence: Presence,
@@ -249,7 +251,7 @@ pub fn capability_shown(starting: Starting, at: usize, capability: Capability) -
 }
 
 // The places of the two circles that a receipt may be noted at: the spare ones where it is not.
-#[derive(Drop)]
+#[derive(Clone, Copy)]
 pub struct Noted {
     pub rejected: usize,
     pub others: usize,
@@ -318,7 +320,7 @@ pub fn receipt_shown(starting: Starting, slot: usize, receipt: Receipt) -> Recei
 
 // the awaited item -------------------------------------------------------------------------------------------------------
 
-#[derive(Drop)]
+#[derive(Clone, Copy)]
 pub enum ItemKind {
     Nothing,
     Observe,
@@ -329,7 +331,7 @@ pub enum ItemKind {
 
 // The item whose reply is awaited. Only what its kind has is set: observe an axis, execute a capability with parameters, fall back on an axis for a
 // reason, record a receipt.
-#[derive(Drop)]
+#[derive(Clone, Copy)]
 pub struct ItemShown {
     pub kind: ItemKind,
     pub axis: u8,

@@ -13,13 +13,11 @@ use Rattle.rules.specs.Rules.{meets_estop}
 use Rattle.state.specs.Axes.{first_used}
 use Rattle.state.specs.Stores.{awaiting}
 use Rattle.state.specs.declared.Answer.{Answer}
-use Rattle.state.specs.declared.Answer.TheVariants as Answer
 use Rattle.state.specs.declared.Awaited.TheVariants as Awaited
 use Rattle.state.specs.declared.Fixed.{Fixed}
 use Rattle.state.specs.declared.Numbers.{Numbers}
 use Rattle.decide_start.specs.declared.Listed.{Listed}
 use Rattle.decide_start.specs.declared.Stage.{Stage}
-use Rattle.decide_start.specs.declared.Stage.TheVariants as Stage
 use Rattle.decide_start.specs.declared.Trial.{Trial}
 
 -- the arguments ----------------------------------------------------------------------------------------------------------

@@ -1,6 +1,8 @@
 // A start (runtime.rs, `Runtime::new`): 01's checks in order, the parts of the state that it opens, and which axis is tried next. By value, on the
 // first records of the list: 17 of them tell as much as all. Rests on `state` for the parts and the used axes, and on `model` for the checks of a
 // record.
+#![tactic(auto)]
+
 ghost use Rattle.std.specs.Prelude.{ℕ, ◌<◌, min, cond, true, false, not, ◌&&◌, List, [], ◌∷◌, ◌++◌, ◌≡◌, get_or, take};
 ghost use Rattle.model.specs.declared.Capability.{Capability};
 ghost use Rattle.model.specs.declared.RuntimeState.TheVariants.{SafeIdle, Estopped};
@@ -15,14 +17,14 @@ use model::{Capability, Config, RuntimeState};
 use state::{AfterRecord, Answer, Awaited, Fixed, Mode, Numbers, Waiting, first_used, is_waiting};
 
 // The first records of a list and how many there are; 17 stands for more than 16. A list that long is refused by its length.
-#[derive(Drop)]
+#[derive(Clone, Copy)]
 pub struct Listed {
     pub records: [Capability; 17],
     pub count: usize,
 }
 
 // Where a start stands: axes are tried, it was refused, or there is a runtime.
-#[derive(Drop)]
+#[derive(Clone, Copy)]
 pub enum Stage {
     Trying,
     Gone,
@@ -30,14 +32,14 @@ pub enum Stage {
 }
 
 // .. and that no axis has failed so far.
-#[derive(Drop)]
+#[derive(Clone, Copy)]
 pub struct Starting {
     pub stage: Stage,
     pub good: bool,
 }
 
 // What a start goes on with: where it then stands, the reply that is awaited, the axis that is tried, and what comes out.
-#[derive(Drop)]
+#[derive(Clone, Copy)]
 pub struct Trial {
     pub starting: Starting,
     pub waiting: Waiting,
@@ -286,6 +288,7 @@ pub fn tried(axis: u8, good: bool) -> Trial
     ended(Stage::Gone, false, Answer::StartupFailed)
 }
 
+#[tactic(auto, unfolding(rules::specs::Admission::is_some))]
 fn is_refusal(answer: Answer) -> bool
     ensures { result ≡ is_refusal answer }
 {
