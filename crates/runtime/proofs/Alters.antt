@@ -1,6 +1,6 @@
 -- A runtime with other numbers, or another place of the call in hand, and its tables as they were. Assumes nothing.
 use Prim.Native.Nat.{ℕ}
-use mathlib.Core.Bool.{Bool, true, false, not, false≢true}
+use mathlib.Core.Bool.{Bool, true, not, false≢true}
 use mathlib.Core.Path.{◌≡◌, refl, sym, ap}
 use lib.Dec.{T}
 use lib.ListN.{get_or}

@@ -17,16 +17,12 @@ use Rattle.rules.specs.Rules.{tick, update_state, emergency_stop, poll_estop, re
 use Rattle.rules.specs.With.{with_estop_seen}
 use Rattle.state.specs.State.{Asked, Hand, book_of, after_tick_of, after_tick, waits, item_at, output_of, phase_at, phase_of, reaction_of}
 use Rattle.state.specs.declared.Answer.{Answer}
-use Rattle.state.specs.declared.Answer.TheVariants as Answer
 use Rattle.state.specs.declared.Awaited.{Awaited}
-use Rattle.state.specs.declared.Awaited.TheVariants as Awaited
 use Rattle.state.specs.declared.CallKind.{CallKind}
-use Rattle.state.specs.declared.CallKind.TheVariants as CallKind
 use Rattle.state.specs.declared.Pending.{Pending}
 use Rattle.state.proofs.Turns.{call-waits, call-begins}
 use Rattle.decide_start.specs.Starts.{is_started, away_by}
 use Rattle.decide_start.specs.declared.Stage.{Stage}
-use Rattle.decide_start.specs.declared.Stage.TheVariants as Stage
 use Rattle.decide_tick.specs.declared.Begun.{Begun}
 use Rattle.decide_tick.specs.declared.Begun.TheVariants.{Quiet, Busy}
 use Rattle.runtime.specs.declared.Runtime.{Runtime}

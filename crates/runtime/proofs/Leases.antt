@@ -36,6 +36,7 @@ use Rattle.runtime.specs.declared.Runtime.{Runtime}
 use Rattle.runtime.specs.Kept.{filled_in}
 use Rattle.runtime.specs.Promises.{Kept, Good, MovesIn, PlacesIn, spare_or}
 use Rattle.runtime.specs.Runtimes.{tables_in, state_in, book_on}
+use Rattle.runtime.proofs.Cells.{set_any}
 use Rattle.runtime.proofs.Onto.{kind_of, kind_in, kind_at, recorded-in, altered, kept-lease}
 use Rattle.runtime.proofs.Slots.{shown-set, shown-at}
 
@@ -148,6 +149,13 @@ renewed_as renewal s =
 abbrev pub twice : ℕ → ℕ → ℕ → List LeaseSlot → List LeaseSlot
 twice end renewal i ls =
     set (set ls i (until end (get_or ls i no_lease))) i (renewed_as renewal (get_or (set ls i (until end (get_or ls i no_lease))) i no_lease))
+
+-- .. whatever is said to stand past the end of the table
+pub twice-so : (end renewal i : ℕ) (ls : List LeaseSlot) (d e : LeaseSlot)
+    → set (set ls i (until end (get_or ls i d))) i (renewed_as renewal (get_or (set ls i (until end (get_or ls i d))) i e)) ≡ twice end renewal i ls
+twice-so end renewal i ls d e =
+    ap (λ (m : List LeaseSlot). set m i (renewed_as renewal (get_or m i e))) (set_any (until end) d no_lease ls i)
+    ∙ set_any (renewed_as renewal) e no_lease (set ls i (until end (get_or ls i no_lease))) i
 
 module _ (end renewal i : ℕ) (ls : List LeaseSlot) (sized : length ls ≡ 9) (b : i < 8) where
   abbrev pub both : LeaseSlot

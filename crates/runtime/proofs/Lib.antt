@@ -1,11 +1,8 @@
 pub mod Slots
 pub mod Follows
 pub mod Records
-pub mod Elements
-pub mod RawPart
-pub mod Lends
 pub mod Cells
-pub mod Values
+pub mod Told
 pub mod Circles
 pub mod Turned
 pub mod Looks
@@ -20,6 +17,5 @@ pub mod Rulings
 pub mod Callings
 pub mod Sizes
 pub mod Openings
-pub mod WalkNew
 pub mod Trials
 pub mod Showing

@@ -39,7 +39,7 @@ use Rattle.decide_resume.specs.declared.Sought.{Sought}
 use Rattle.decide_resume.specs.declared.Sought.TheVariants.{Due, Forbidden, Nothing}
 use Rattle.decide_tick.specs.Ticks.{lease_end, order_end}
 use Rattle.runtime.specs.declared.Runtime.{Runtime}
-use Rattle.runtime.specs.Promises.{Good, SoonestIn, FoundIn, EntryIn, hit_of, HitIn}
+use Rattle.runtime.specs.Promises.{Kept, Good, SoonestIn, FoundIn, EntryIn, hit_of, HitIn}
 use Rattle.runtime.specs.Runtimes.{ring_in, tables_in}
 use Rattle.runtime.proofs.Slots.{shown-at}
 
@@ -55,6 +55,20 @@ hits false n = absurd n
 -- what can't be: a place within a bound and past it
 pub either_way : {X : Type 0} {i n : ℕ} → i < n → n ≤ i → X
 either_way low past = absurd (omega (arith, low, past))
+
+-- a slot of a table, the spare one included
+module _ (h : Runtime) (k : Kept h) (i : ℕ) where
+  pub lease-low : i < 9 → i < length h.leases
+  lease-low low = rw k.sized.leases low
+
+  pub order-low : i < 9 → i < length h.active
+  order-low low = rw k.sized.active low
+
+  pub record-low : i < 17 → i < length h.capabilities
+  record-low low = rw k.sized.capabilities low
+
+  pub slot-low : i < 65 → i < length h.slots
+  slot-low low = rw k.sized.slots low
 
 -- a search over the axes -------------------------------------------------------------------------------------------------
 
@@ -90,6 +104,12 @@ held_at h owner id axis = holds_of (get_or (tables_in h).leases axis none) (is_h
 module _ (h : Runtime) (good : Good h) where
   -- .. by what stands in the slots
   module _ (i : ℕ) (low : i < 8) where
+    pub low-lease : i < length h.leases
+    low-lease = rw good.kept.sized.leases (omega (arith, low))
+
+    pub low-order : i < length h.active
+    low-order = rw good.kept.sized.active (omega (arith, low))
+
     lease-at : get_or (tables_in h).leases i none ≡ lease_in (get_or h.leases i no_lease)
     lease-at = shown-at lease_in no_lease 8 h.leases i low (rw good.kept.sized.leases (omega (arith, low)))
 
@@ -246,6 +266,9 @@ module _ (h : Runtime) (good : Good h) (i : ℕ) where
 
   fewer : h.fixed.count ≤ length h.capabilities
   fewer = rw good.kept.sized.capabilities (omega (arith, good.kept.placed.count))
+
+  pub low-place : i < h.fixed.count → i < length h.capabilities
+  low-place low = omega (arith, low, fewer)
 
   pub place_inside : i < h.fixed.count → i < 17
   place_inside low = omega (arith, low, good.kept.placed.count)

@@ -1,6 +1,6 @@
 -- How a call goes on after its opening tick, and after a fallback. Assumes nothing.
 use Prim.Native.Nat.{ℕ}
-use mathlib.Core.Bool.{true, false, not, false≢true}
+use mathlib.Core.Bool.{true, not, false≢true}
 use mathlib.Core.Logic.{◌≢◌}
 use mathlib.Core.Path.{◌≡◌, sym, ap, subst, ◌∙◌}
 use native.Mathlib.Omega.{arith}
@@ -17,7 +17,6 @@ use Rattle.state.specs.State.{Asked, lease_in, book_of, after_tick_of, after_tic
 use Rattle.state.specs.Stores.{goes_on, Leads, TakesWhere}
 use Rattle.state.specs.declared.Answer.{Answer}
 use Rattle.state.specs.declared.CallKind.{CallKind}
-use Rattle.state.specs.declared.CallKind.TheVariants as CallKind
 use Rattle.state.specs.declared.Course.{Course}
 use Rattle.decide_resume.specs.declared.Search.{Search}
 use Rattle.decide_resume.specs.Searches.{ShowsSought, Seeks, ShowsNext}

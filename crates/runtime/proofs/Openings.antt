@@ -32,7 +32,6 @@ use Rattle.rules.proofs.Soundness.{sound-start}
 use Rattle.state.specs.Axes.{up_from, axes_from, used_from, first_used}
 use Rattle.state.specs.State.{lease_in, active_in, Tables, Asked, Hand, State, book_of, item_at, output_of, Checked, count_of, carries, Sound}
 use Rattle.state.specs.declared.Answer.{Answer}
-use Rattle.state.specs.declared.Answer.TheVariants as Answer
 use Rattle.state.specs.declared.Awaited.TheVariants.{Nothing, Fallback}
 use Rattle.state.specs.declared.Falling.{Falling}
 use Rattle.state.specs.declared.Fixed.{Fixed}
@@ -41,7 +40,6 @@ use Rattle.state.specs.declared.Waiting.{Waiting}
 use Rattle.state.proofs.Axes.{used-first, used-some}
 use Rattle.decide_start.specs.declared.Listed.{Listed}
 use Rattle.decide_start.specs.declared.Stage.{Stage}
-use Rattle.decide_start.specs.declared.Stage.TheVariants as Stage
 use Rattle.decide_start.specs.declared.Starting.{Starting}
 use Rattle.decide_start.specs.declared.Trial.{Trial}
 use Rattle.decide_start.specs.Starts.{Listing, start_on, refusal_of, Fixes, numbers_at, ended_by, tried_at, first_trial}

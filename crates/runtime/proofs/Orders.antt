@@ -58,7 +58,7 @@ rejects h reason r z slot k p v = recorded-in (rejecting r h) (rejecting-kept h 
 
 -- an admission ----------------------------------------------------------------------------------------------------------------
 
-abbrev sequenced_as : ℕ → LeaseSlot → LeaseSlot
+abbrev pub sequenced_as : ℕ → LeaseSlot → LeaseSlot
 sequenced_as sequence s =
     record {
       presence = s.presence;

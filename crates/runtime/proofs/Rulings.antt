@@ -20,7 +20,6 @@ use Rattle.decide_ready.specs.declared.Check.{Check}
 use Rattle.decide_ready.specs.declared.Check.TheVariants.{Passed}
 use Rattle.decide_ready.specs.declared.Ruling.{Ruling}
 use Rattle.decide_ready.specs.declared.Verdict.{Verdict}
-use Rattle.decide_ready.specs.declared.Verdict.TheVariants as Verdict
 use Rattle.decide_lease.specs.Leases.{ShowsAxis}
 use Rattle.decide_order.specs.Checks.{early_checks}
 use Rattle.decide_order.specs.Orders.{ShowsOrder}

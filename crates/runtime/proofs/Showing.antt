@@ -19,7 +19,6 @@ use Rattle.model.specs.declared.Receipt.{Receipt}
 use Rattle.model.specs.Records.{no_lease, no_capability, no_receipt}
 use Rattle.receipts.specs.Indexes.{Points}
 use Rattle.receipts.specs.declared.Found.{Found}
-use Rattle.receipts.specs.declared.Found.TheVariants as Found
 use Rattle.receipts.proofs.Circles.{lt-or-ge}
 use Rattle.receipts.proofs.Promises.{list_length}
 use Rattle.rules.specs.Admission.{is_some}
@@ -29,7 +28,6 @@ use Rattle.rules.specs.Protocol.{ItemFallback, Reading, ReadState, ReadEpoch, Re
 use Rattle.state.specs.State.{lease_in, lease_or, count_of, Hand, Asked, book_of, phase_at, phase_of, answered_at, output_of, Sound}
 use Rattle.state.specs.declared.Answer.TheVariants as Answer
 use Rattle.state.specs.declared.Awaited.{Awaited}
-use Rattle.state.specs.declared.Awaited.TheVariants as Awaited
 use Rattle.decide_read.specs.Shown.{presence_of, number_at, state_at, no_config, config_at, snapshot_of, snapshot_at, slot_with, lease_shown_at, place_or16, no_capability_in, capability_at, rejected_by, others_by, NotedAs, slot_by, no_receipt_in, receipt_at, number_says, state_says, config_says, snapshot_says, lease_says, capability_says, receipt_says, shown_item, item_from}
 use Rattle.decide_read.specs.declared.CapabilityShown.{CapabilityShown}
 use Rattle.decide_read.specs.declared.ItemShown.{ItemShown}
@@ -37,7 +35,6 @@ use Rattle.decide_read.specs.declared.Noted.{Noted}
 use Rattle.decide_read.specs.declared.ReceiptShown.{ReceiptShown}
 use Rattle.decide_start.specs.Starts.{is_started}
 use Rattle.decide_start.specs.declared.Stage.{Stage}
-use Rattle.decide_start.specs.declared.Stage.TheVariants as Stage
 use Rattle.runtime.specs.declared.Runtime.{Runtime}
 use Rattle.runtime.specs.Promises.{Kept, spare_or}
 use Rattle.runtime.specs.Runtimes.{stores_of, receipts_in, tables_in, asked_in, hand_in, state_in, book_on}
@@ -367,15 +364,15 @@ module _ (rt : Runtime) (k : Kept rt) (index : ℕ) where
 
 -- the awaited item -------------------------------------------------------------------------------------------------------
 
-item_from : (w : Awaited) (h : Hand) (q : Asked) (b : Book)
+item-from-awaited : (w : Awaited) (h : Hand) (q : Asked) (b : Book)
     → item_from w h.falling h.order.capability q.submission.action.parameters h.receipt ≡ shown_item (awaited_in (phase_at w h q b))
 unfolding item_from phase_at item_of
-item_from Awaited.Nothing h q b = refl
-item_from Awaited.ObserveBefore h q b = refl
-item_from Awaited.Execute h q b = refl
-item_from Awaited.ObserveAfter h q b = refl
-item_from Awaited.Fallback h q b = refl
-item_from Awaited.Record h q b = refl
+item-from-awaited Awaited.Nothing h q b = refl
+item-from-awaited Awaited.ObserveBefore h q b = refl
+item-from-awaited Awaited.Execute h q b = refl
+item-from-awaited Awaited.ObserveAfter h q b = refl
+item-from-awaited Awaited.Fallback h q b = refl
+item-from-awaited Awaited.Record h q b = refl
 
 module _ (rt : Runtime) where
   -- what stands of it
@@ -389,7 +386,7 @@ module _ (rt : Runtime) where
   item-at Stage.Trying k =
       ap item_on k.awaited ∙ ap (λ (x : Reason). shown_item (some (ItemFallback rt.falling.axis x))) k.opened.reason
   item-at Stage.Gone k = ap item_on k
-  item-at Stage.Started k = item_from rt.waiting.awaited (hand_in rt) (asked_in rt) (book_on rt)
+  item-at Stage.Started k = item-from-awaited rt.waiting.awaited (hand_in rt) (asked_in rt) (book_on rt)
 
   pub item-shown : RuntimeSound rt → item_on rt.waiting.awaited ≡ shown_item (awaited_in (phase_in rt))
   item-shown k = item-at rt.starting.stage k.staged

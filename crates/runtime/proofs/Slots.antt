@@ -4,6 +4,12 @@ use mathlib.Core.List.{List, [], ◌∷◌, map}
 use mathlib.Core.Option.{Option, none}
 use mathlib.Core.Path.{◌≡◌, refl, ap, ◌∙◌}
 use native.Mathlib.Omega.{arith}
+use Rattle.model.specs.declared.Lease.{Lease}
+use Rattle.model.specs.declared.LeaseSlot.{LeaseSlot}
+use Rattle.model.specs.declared.Presence.TheVariants.{Absent}
+use Rattle.model.specs.Records.{no_lease}
+use Rattle.state.specs.State.{lease_in}
+use Rattle.runtime.proofs.Cells.{read_any}
 use lib.ListN.{length, get_or, set, take}
 use lib.Seq.{take-set-le, take-set-lt}
 
@@ -28,3 +34,7 @@ shown-at f d zero l i h k = absurd (omega arith)
 shown-at f d (suc n) [] i h k = absurd (omega arith)
 shown-at f d (suc n) (a ∷ l) zero h k = refl
 shown-at f d (suc n) (a ∷ l) (suc i) h k = shown-at f d n l i (omega arith) (omega arith)
+
+-- past its end a table of leases shows none, whatever is said to stand there
+pub none_past : (l : Lease) (xs : List LeaseSlot) (i : ℕ) → lease_in (get_or xs i (record { presence = Absent; lease = l })) ≡ lease_in (get_or xs i no_lease)
+none_past l xs i = read_any lease_in (record { presence = Absent; lease = l }) no_lease xs i refl

@@ -9,16 +9,13 @@ use lib.Dec.{T, ltb}
 use Rattle.model.specs.declared.Reason.{Reason}
 use Rattle.model.specs.declared.Reason.TheVariants.{Startup}
 use Rattle.model.specs.Reasons.{other_reply_awaited}
-use Rattle.rules.specs.Protocol.{Start, Input, Reply, Observed, Executed, FellBack, Recorded, Replies, ItemFallback, Hands, Reminds, Phase, Idle, Reaction, Effect, Stays, start_from, start_replied, replied, effect, apply, react}
+use Rattle.rules.specs.Protocol.{Start, Input, Reply, Observed, Executed, FellBack, Recorded, Replies, ItemFallback, Hands, Reminds, Phase, Idle, Effect, Stays, start_from, start_replied, replied, effect, apply, react}
 use Rattle.state.specs.Axes.{first_used, used_from}
 use Rattle.state.specs.State.{Asked, Hand, carries, Sound, item_at, output_of, phase_at, phase_of}
 use Rattle.state.specs.declared.Answer.{Answer}
-use Rattle.state.specs.declared.Answer.TheVariants as Answer
 use Rattle.state.specs.declared.Awaited.{Awaited}
-use Rattle.state.specs.declared.Awaited.TheVariants as Awaited
 use Rattle.state.proofs.Axes.{used-first, used-none}
 use Rattle.decide_start.specs.declared.Stage.{Stage}
-use Rattle.decide_start.specs.declared.Stage.TheVariants as Stage
 use Rattle.decide_start.specs.declared.Trial.{Trial}
 use Rattle.decide_start.specs.Starts.{tried_at, ended_by, over_by, trial_of, is_started, unheard_by}
 use Rattle.runtime.specs.declared.Runtime.{Runtime}

@@ -10,19 +10,14 @@ use Rattle.rules.specs.Rules.{complete, fail, trip}
 use Rattle.state.specs.State.{State, progress_of, after_fallback, after_fell_back, output_of, phase_of, reaction_of, Sound, Moves}
 use Rattle.state.specs.Stores.{awaiting}
 use Rattle.state.specs.declared.Answer.{Answer}
-use Rattle.state.specs.declared.Answer.TheVariants as Answer
 use Rattle.state.specs.declared.Awaited.TheVariants as Awaited
 use Rattle.state.specs.declared.Awaited.TheVariants.{ObserveAfter}
 use Rattle.state.specs.declared.Progress.{Progress}
 use Rattle.decide_reply.specs.declared.Observed.{Observed}
 use Rattle.decide_reply.specs.declared.OnExecuted.{OnExecuted}
-use Rattle.decide_reply.specs.declared.OnExecuted.TheVariants as OnExecuted
 use Rattle.decide_reply.specs.declared.OnFellBack.{OnFellBack}
-use Rattle.decide_reply.specs.declared.OnFellBack.TheVariants as OnFellBack
 use Rattle.decide_reply.specs.declared.OnObserved.{OnObserved}
-use Rattle.decide_reply.specs.declared.OnObserved.TheVariants as OnObserved
 use Rattle.decide_reply.specs.declared.OnRecorded.{OnRecorded}
-use Rattle.decide_reply.specs.declared.OnRecorded.TheVariants as OnRecorded
 use Rattle.decide_reply.specs.Replies.{observation_in, over, executing, observing, seen_by, failed_by, reason_by, unexecuted_by, ObservesAs, ExecutesAs, FallsBackAs, RecordsAs}
 use Rattle.runtime.specs.declared.Runtime.{Runtime}
 use Rattle.runtime.specs.Promises.{Kept, Good, MovesIn, turns_away, TurnsIn}

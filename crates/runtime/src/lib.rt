@@ -1,5 +1,7 @@
 // The runtime where it stands (runtime.rs, `Runtime`): tables, numbers and the place of the call in hand, as they are lent. Its fields are
 // its own: no other crate can put a lease into the table or lower a counter. specs/Runtimes says which state (crate `state`) it is.
+#![tactic(auto)]
+
 ghost use Rattle.std.specs.Prelude.{◌+◌, ◌-◌, ◌%◌, ◌≤◌, ◌<◌, true, List, ◌≡◌, get_or};
 ghost use Rattle.std.proofs.Math.Option.{some, none};
 ghost use Rattle.model.specs.declared.Capability.{Capability as CapabilityRecord};
@@ -149,7 +151,7 @@ use state::soonest_with;
 use state::trips;
 
 // The places of the receipts: the index and the slot numbers of its two circles.
-#[derive(Drop)]
+#[derive(Clone, Copy)]
 pub struct Places {
     pub index: Index,
     pub rejected: [u8; 65],
@@ -157,7 +159,7 @@ pub struct Places {
 }
 
 // Each table has one element more than it shows, at its end: what is stored there is not kept, so that a store needs no branch.
-#[derive(Drop)]
+#[derive(Clone, Copy)]
 pub struct Runtime {
     waiting: Waiting,
     numbers: Numbers,
@@ -299,7 +301,7 @@ fn look_replay(rt: &Runtime, owner: u64, action_id: u64) -> usize
 }
 
 // Whether there is such an entry, and its receipt.
-#[derive(Drop)]
+#[derive(Clone, Copy)]
 pub struct Hit {
     pub found: bool,
     pub receipt: u64,
@@ -337,7 +339,7 @@ fn look_hit(rt: &Runtime, wanted: bool, owner: u64, action_id: u64) -> Hit
 // store ------------------------------------------------------------------------------------------------------------------
 
 // Where one more receipt goes: its slot, and the place of its circle; the spare place of the other one.
-#[derive(Drop)]
+#[derive(Clone, Copy)]
 pub struct Placement {
     pub index: Index,
     pub slot: usize,
@@ -992,7 +994,7 @@ fn recorded_on(rt: &mut Runtime) -> Answer
 // start ------------------------------------------------------------------------------------------------------------------
 
 // What a start makes, and what comes out.
-#[derive(Drop)]
+#[derive(Clone, Copy)]
 pub struct Created {
     pub runtime: Runtime,
     pub answer: Answer,
