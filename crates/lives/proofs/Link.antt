@@ -11,7 +11,7 @@ use base.Logic.{SProp, emp}
 use base.Fml.{Lft}
 use types.Logic.{Logic}
 use contract.Monad.{Fun, fact}
-use denote.Ref.{Bor}
+use denote.Ref.{Bor, MutBor}
 use Rattle.model.specs.declared.Capability.{Capability}
 use Rattle.model.specs.declared.Config.{Config}
 use Rattle.model.specs.declared.Lease.{Lease}
@@ -77,84 +77,84 @@ module _ {M : Type 1} {𝓤 : Ura M} (𝓛 : Logic 𝓤) (m : Memory → SProp �
 
   -- calls ---------------------------------------------------------------------------------------------------------------
 
-  pub tick-says : (p after : Bor Runtime) (time : ℕ) (r : Answer) → (f-tick.clauses 𝓛 m run (κ, tt) (p, (time, tt))).ensures tt r (after, (time, tt)) ≡ fact 𝓤 (Turns p.now after.now r (react (phase_in p.now) (Calls (Tick time))))
+  pub tick-says : (p after : MutBor Runtime) (time : ℕ) (r : Answer) → (f-tick.clauses 𝓛 m run (κ, tt) (p, (time, tt))).ensures tt r (after, (time, tt)) ≡ fact 𝓤 (Turns p.now after.now r (react (phase_in p.now) (Calls (Tick time))))
   tick-says p after time r = refl
 
-  pub tick-asks : (p : Bor Runtime) (time : ℕ) → (f-tick.clauses 𝓛 m run (κ, tt) (p, (time, tt))).requires tt ≡ fact 𝓤 (RuntimeSound p.now)
+  pub tick-asks : (p : MutBor Runtime) (time : ℕ) → (f-tick.clauses 𝓛 m run (κ, tt) (p, (time, tt))).requires tt ≡ fact 𝓤 (RuntimeSound p.now)
   tick-asks p time = refl
 
-  pub update-state-says : (p after : Bor Runtime) (flags time : ℕ) (r : Answer) → (f-update-state.clauses 𝓛 m run (κ, tt) (p, (flags, (time, tt)))).ensures tt r (after, (flags, (time, tt))) ≡ fact 𝓤 (Turns p.now after.now r (react (phase_in p.now) (Calls (UpdateState flags time))))
+  pub update-state-says : (p after : MutBor Runtime) (flags time : ℕ) (r : Answer) → (f-update-state.clauses 𝓛 m run (κ, tt) (p, (flags, (time, tt)))).ensures tt r (after, (flags, (time, tt))) ≡ fact 𝓤 (Turns p.now after.now r (react (phase_in p.now) (Calls (UpdateState flags time))))
   update-state-says p after flags time r = refl
 
-  pub update-state-asks : (p : Bor Runtime) (flags time : ℕ) → (f-update-state.clauses 𝓛 m run (κ, tt) (p, (flags, (time, tt)))).requires tt ≡ fact 𝓤 (RuntimeSound p.now)
+  pub update-state-asks : (p : MutBor Runtime) (flags time : ℕ) → (f-update-state.clauses 𝓛 m run (κ, tt) (p, (flags, (time, tt)))).requires tt ≡ fact 𝓤 (RuntimeSound p.now)
   update-state-asks p flags time = refl
 
-  pub emergency-stop-says : (p after : Bor Runtime) (time : ℕ) (r : Answer) → (f-emergency-stop.clauses 𝓛 m run (κ, tt) (p, (time, tt))).ensures tt r (after, (time, tt)) ≡ fact 𝓤 (Turns p.now after.now r (react (phase_in p.now) (Calls (EmergencyStop time))))
+  pub emergency-stop-says : (p after : MutBor Runtime) (time : ℕ) (r : Answer) → (f-emergency-stop.clauses 𝓛 m run (κ, tt) (p, (time, tt))).ensures tt r (after, (time, tt)) ≡ fact 𝓤 (Turns p.now after.now r (react (phase_in p.now) (Calls (EmergencyStop time))))
   emergency-stop-says p after time r = refl
 
-  pub emergency-stop-asks : (p : Bor Runtime) (time : ℕ) → (f-emergency-stop.clauses 𝓛 m run (κ, tt) (p, (time, tt))).requires tt ≡ fact 𝓤 (RuntimeSound p.now)
+  pub emergency-stop-asks : (p : MutBor Runtime) (time : ℕ) → (f-emergency-stop.clauses 𝓛 m run (κ, tt) (p, (time, tt))).requires tt ≡ fact 𝓤 (RuntimeSound p.now)
   emergency-stop-asks p time = refl
 
-  pub poll-estop-says : (p after : Bor Runtime) (raised time : ℕ) (r : Answer) → (f-poll-estop.clauses 𝓛 m run (κ, tt) (p, (raised, (time, tt)))).ensures tt r (after, (raised, (time, tt))) ≡ fact 𝓤 (Turns p.now after.now r (react (phase_in p.now) (Calls (PollEstop raised time))))
+  pub poll-estop-says : (p after : MutBor Runtime) (raised time : ℕ) (r : Answer) → (f-poll-estop.clauses 𝓛 m run (κ, tt) (p, (raised, (time, tt)))).ensures tt r (after, (raised, (time, tt))) ≡ fact 𝓤 (Turns p.now after.now r (react (phase_in p.now) (Calls (PollEstop raised time))))
   poll-estop-says p after raised time r = refl
 
-  pub poll-estop-asks : (p : Bor Runtime) (raised time : ℕ) → (f-poll-estop.clauses 𝓛 m run (κ, tt) (p, (raised, (time, tt)))).requires tt ≡ fact 𝓤 (RuntimeSound p.now)
+  pub poll-estop-asks : (p : MutBor Runtime) (raised time : ℕ) → (f-poll-estop.clauses 𝓛 m run (κ, tt) (p, (raised, (time, tt)))).requires tt ≡ fact 𝓤 (RuntimeSound p.now)
   poll-estop-asks p raised time = refl
 
-  pub recover-local-says : (p after : Bor Runtime) (time : ℕ) (r : Answer) → (f-recover-local.clauses 𝓛 m run (κ, tt) (p, (time, tt))).ensures tt r (after, (time, tt)) ≡ fact 𝓤 (Turns p.now after.now r (react (phase_in p.now) (Calls (RecoverLocal time))))
+  pub recover-local-says : (p after : MutBor Runtime) (time : ℕ) (r : Answer) → (f-recover-local.clauses 𝓛 m run (κ, tt) (p, (time, tt))).ensures tt r (after, (time, tt)) ≡ fact 𝓤 (Turns p.now after.now r (react (phase_in p.now) (Calls (RecoverLocal time))))
   recover-local-says p after time r = refl
 
-  pub recover-local-asks : (p : Bor Runtime) (time : ℕ) → (f-recover-local.clauses 𝓛 m run (κ, tt) (p, (time, tt))).requires tt ≡ fact 𝓤 (RuntimeSound p.now)
+  pub recover-local-asks : (p : MutBor Runtime) (time : ℕ) → (f-recover-local.clauses 𝓛 m run (κ, tt) (p, (time, tt))).requires tt ≡ fact 𝓤 (RuntimeSound p.now)
   recover-local-asks p time = refl
 
-  pub acquire-says : (p after : Bor Runtime) (request : LeaseRequest) (time : ℕ) (r : Answer) → (f-acquire.clauses 𝓛 m run (κ, tt) (p, (request, (time, tt)))).ensures tt r (after, (request, (time, tt))) ≡ fact 𝓤 (Turns p.now after.now r (react (phase_in p.now) (Calls (Acquire request time))))
+  pub acquire-says : (p after : MutBor Runtime) (request : LeaseRequest) (time : ℕ) (r : Answer) → (f-acquire.clauses 𝓛 m run (κ, tt) (p, (request, (time, tt)))).ensures tt r (after, (request, (time, tt))) ≡ fact 𝓤 (Turns p.now after.now r (react (phase_in p.now) (Calls (Acquire request time))))
   acquire-says p after request time r = refl
 
-  pub acquire-asks : (p : Bor Runtime) (request : LeaseRequest) (time : ℕ) → (f-acquire.clauses 𝓛 m run (κ, tt) (p, (request, (time, tt)))).requires tt ≡ fact 𝓤 (RuntimeSound p.now)
+  pub acquire-asks : (p : MutBor Runtime) (request : LeaseRequest) (time : ℕ) → (f-acquire.clauses 𝓛 m run (κ, tt) (p, (request, (time, tt)))).requires tt ≡ fact 𝓤 (RuntimeSound p.now)
   acquire-asks p request time = refl
 
-  pub renew-says : (p after : Bor Runtime) (renewal : Renewal) (r : Answer) → (f-renew.clauses 𝓛 m run (κ, tt) (p, (renewal, tt))).ensures tt r (after, (renewal, tt)) ≡ fact 𝓤 (Turns p.now after.now r (react (phase_in p.now) (Calls (Renew renewal))))
+  pub renew-says : (p after : MutBor Runtime) (renewal : Renewal) (r : Answer) → (f-renew.clauses 𝓛 m run (κ, tt) (p, (renewal, tt))).ensures tt r (after, (renewal, tt)) ≡ fact 𝓤 (Turns p.now after.now r (react (phase_in p.now) (Calls (Renew renewal))))
   renew-says p after renewal r = refl
 
-  pub renew-asks : (p : Bor Runtime) (renewal : Renewal) → (f-renew.clauses 𝓛 m run (κ, tt) (p, (renewal, tt))).requires tt ≡ fact 𝓤 (RuntimeSound p.now)
+  pub renew-asks : (p : MutBor Runtime) (renewal : Renewal) → (f-renew.clauses 𝓛 m run (κ, tt) (p, (renewal, tt))).requires tt ≡ fact 𝓤 (RuntimeSound p.now)
   renew-asks p renewal = refl
 
-  pub cancel-says : (p after : Bor Runtime) (owner lease time : ℕ) (r : Answer) → (f-cancel.clauses 𝓛 m run (κ, tt) (p, (owner, (lease, (time, tt))))).ensures tt r (after, (owner, (lease, (time, tt)))) ≡ fact 𝓤 (Turns p.now after.now r (react (phase_in p.now) (Calls (Cancel owner lease time))))
+  pub cancel-says : (p after : MutBor Runtime) (owner lease time : ℕ) (r : Answer) → (f-cancel.clauses 𝓛 m run (κ, tt) (p, (owner, (lease, (time, tt))))).ensures tt r (after, (owner, (lease, (time, tt)))) ≡ fact 𝓤 (Turns p.now after.now r (react (phase_in p.now) (Calls (Cancel owner lease time))))
   cancel-says p after owner lease time r = refl
 
-  pub cancel-asks : (p : Bor Runtime) (owner lease time : ℕ) → (f-cancel.clauses 𝓛 m run (κ, tt) (p, (owner, (lease, (time, tt))))).requires tt ≡ fact 𝓤 (RuntimeSound p.now)
+  pub cancel-asks : (p : MutBor Runtime) (owner lease time : ℕ) → (f-cancel.clauses 𝓛 m run (κ, tt) (p, (owner, (lease, (time, tt))))).requires tt ≡ fact 𝓤 (RuntimeSound p.now)
   cancel-asks p owner lease time = refl
 
-  pub submit-says : (p after : Bor Runtime) (submission : Submission) (r : Answer) → (f-submit.clauses 𝓛 m run (κ, tt) (p, (submission, tt))).ensures tt r (after, (submission, tt)) ≡ fact 𝓤 (Turns p.now after.now r (react (phase_in p.now) (Calls (Submit submission))))
+  pub submit-says : (p after : MutBor Runtime) (submission : Submission) (r : Answer) → (f-submit.clauses 𝓛 m run (κ, tt) (p, (submission, tt))).ensures tt r (after, (submission, tt)) ≡ fact 𝓤 (Turns p.now after.now r (react (phase_in p.now) (Calls (Submit submission))))
   submit-says p after submission r = refl
 
-  pub submit-asks : (p : Bor Runtime) (submission : Submission) → (f-submit.clauses 𝓛 m run (κ, tt) (p, (submission, tt))).requires tt ≡ fact 𝓤 (RuntimeSound p.now)
+  pub submit-asks : (p : MutBor Runtime) (submission : Submission) → (f-submit.clauses 𝓛 m run (κ, tt) (p, (submission, tt))).requires tt ≡ fact 𝓤 (RuntimeSound p.now)
   submit-asks p submission = refl
 
   -- replies -------------------------------------------------------------------------------------------------------------
 
-  pub observed-says : (p after : Bor Runtime) (reply : Observed) (r : Answer) → (f-observed.clauses 𝓛 m run (κ, tt) (p, (reply, tt))).ensures tt r (after, (reply, tt)) ≡ fact 𝓤 (Turns p.now after.now r (react (phase_in p.now) (Replies (ObservedReply (observation_in reply)))))
+  pub observed-says : (p after : MutBor Runtime) (reply : Observed) (r : Answer) → (f-observed.clauses 𝓛 m run (κ, tt) (p, (reply, tt))).ensures tt r (after, (reply, tt)) ≡ fact 𝓤 (Turns p.now after.now r (react (phase_in p.now) (Replies (ObservedReply (observation_in reply)))))
   observed-says p after reply r = refl
 
-  pub observed-asks : (p : Bor Runtime) (reply : Observed) → (f-observed.clauses 𝓛 m run (κ, tt) (p, (reply, tt))).requires tt ≡ fact 𝓤 (RuntimeSound p.now)
+  pub observed-asks : (p : MutBor Runtime) (reply : Observed) → (f-observed.clauses 𝓛 m run (κ, tt) (p, (reply, tt))).requires tt ≡ fact 𝓤 (RuntimeSound p.now)
   observed-asks p reply = refl
 
-  pub executed-says : (p after : Bor Runtime) (ok : Bool) (r : Answer) → (f-executed.clauses 𝓛 m run (κ, tt) (p, (ok, tt))).ensures tt r (after, (ok, tt)) ≡ fact 𝓤 (Turns p.now after.now r (react (phase_in p.now) (Replies (ExecutedReply ok))))
+  pub executed-says : (p after : MutBor Runtime) (ok : Bool) (r : Answer) → (f-executed.clauses 𝓛 m run (κ, tt) (p, (ok, tt))).ensures tt r (after, (ok, tt)) ≡ fact 𝓤 (Turns p.now after.now r (react (phase_in p.now) (Replies (ExecutedReply ok))))
   executed-says p after ok r = refl
 
-  pub executed-asks : (p : Bor Runtime) (ok : Bool) → (f-executed.clauses 𝓛 m run (κ, tt) (p, (ok, tt))).requires tt ≡ fact 𝓤 (RuntimeSound p.now)
+  pub executed-asks : (p : MutBor Runtime) (ok : Bool) → (f-executed.clauses 𝓛 m run (κ, tt) (p, (ok, tt))).requires tt ≡ fact 𝓤 (RuntimeSound p.now)
   executed-asks p ok = refl
 
-  pub fell-back-says : (p after : Bor Runtime) (ok : Bool) (r : Answer) → (f-fell-back.clauses 𝓛 m run (κ, tt) (p, (ok, tt))).ensures tt r (after, (ok, tt)) ≡ fact 𝓤 (Turns p.now after.now r (react (phase_in p.now) (Replies (FellBackReply ok))))
+  pub fell-back-says : (p after : MutBor Runtime) (ok : Bool) (r : Answer) → (f-fell-back.clauses 𝓛 m run (κ, tt) (p, (ok, tt))).ensures tt r (after, (ok, tt)) ≡ fact 𝓤 (Turns p.now after.now r (react (phase_in p.now) (Replies (FellBackReply ok))))
   fell-back-says p after ok r = refl
 
-  pub fell-back-asks : (p : Bor Runtime) (ok : Bool) → (f-fell-back.clauses 𝓛 m run (κ, tt) (p, (ok, tt))).requires tt ≡ fact 𝓤 (RuntimeSound p.now)
+  pub fell-back-asks : (p : MutBor Runtime) (ok : Bool) → (f-fell-back.clauses 𝓛 m run (κ, tt) (p, (ok, tt))).requires tt ≡ fact 𝓤 (RuntimeSound p.now)
   fell-back-asks p ok = refl
 
-  pub recorded-says : (p after : Bor Runtime) (r : Answer) → (f-recorded.clauses 𝓛 m run (κ, tt) (p, tt)).ensures tt r (after, tt) ≡ fact 𝓤 (Turns p.now after.now r (react (phase_in p.now) (Replies RecordedReply)))
+  pub recorded-says : (p after : MutBor Runtime) (r : Answer) → (f-recorded.clauses 𝓛 m run (κ, tt) (p, tt)).ensures tt r (after, tt) ≡ fact 𝓤 (Turns p.now after.now r (react (phase_in p.now) (Replies RecordedReply)))
   recorded-says p after r = refl
 
-  pub recorded-asks : (p : Bor Runtime) → (f-recorded.clauses 𝓛 m run (κ, tt) (p, tt)).requires tt ≡ fact 𝓤 (RuntimeSound p.now)
+  pub recorded-asks : (p : MutBor Runtime) → (f-recorded.clauses 𝓛 m run (κ, tt) (p, tt)).requires tt ≡ fact 𝓤 (RuntimeSound p.now)
   recorded-asks p = refl
 
   -- what a host sees ----------------------------------------------------------------------------------------------------
