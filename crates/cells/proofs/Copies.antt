@@ -1,15 +1,15 @@
 -- What the two loops that copy words know.
-use Prim.Native.Nat.{ℕ, zero, suc, ◌+◌, ◌<◌, ◌≤◌}
+use Prim.Native.Nat.{ℕ, suc, ◌+◌, ◌<◌, ◌≤◌}
 use native.Mathlib.Nat.{not-suc-le-zero, eq-or-lt_of_le}
 use native.Mathlib.Numerals.{add-one}
 use native.Mathlib.Omega.{arith}
 use mathlib.Core.List.{List, [], ◌∷◌, ◌++◌}
 use mathlib.Core.Logic.{⊎_elim}
-use mathlib.Core.Path.{◌≡◌, refl, sym, ap, ◌∙◌, subst}
+use mathlib.Core.Path.{◌≡◌, refl, sym, ap, ◌∙◌}
 use lib.ListN.{length, get_or, set, take, length-set}
 use lib.Seq.{take-suc, take_all, length-take-le, get_or-set_same, get_or-set_other, ext_get_or}
-use Rattle.cells.specs.Cells.{tab, part, put_from, put}
-use Rattle.cells.proofs.Regions.{length-put, length-tab, get_d-tab}
+use Rattle.cells.specs.Cells.{part, put_from, put}
+use Rattle.cells.proofs.Regions.{length-tab, get_d-tab}
 
 put-snoc : (w : List ℕ) (b j : ℕ) (xs : List ℕ) (x : ℕ) → put_from w b j (xs ++ (x ∷ [])) ≡ set (put_from w b j xs) (b + (j + length xs)) x
 put-snoc w b j [] x = ap (λ (n : ℕ). set w n x) (omega arith)

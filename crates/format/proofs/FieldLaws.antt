@@ -1,11 +1,10 @@
 -- A field is read again from its word, and its word is within what it may be. Assumes nothing.
-use Prim.Native.Nat.{ℕ, suc, ◌-◌, ◌%◌, ◌<◌, ◌≤◌}
+use Prim.Native.Nat.{ℕ, suc, ◌%◌, ◌<◌, ◌≤◌}
 use native.Mathlib.Nat.{mod-eq_of_lt}
 use native.Mathlib.Omega.{arith}
 use mathlib.Core.Bool.{Bool, true, false}
 use mathlib.Core.List.{List, [], ◌∷◌}
 use mathlib.Core.Path.{◌≡◌, refl, ap, ◌∙◌}
-use borrow.Author.Tests.{lt-ltb, le-ltb}
 use lib.Dec.{eqb}
 use lib.IntN.{ℤ, pos, negsuc}
 use Rattle.words.specs.Signs.{signed, unsigned}
@@ -13,15 +12,12 @@ use Rattle.model.specs.Decisions.{decision_number}
 use Rattle.model.specs.Reasons.{number}
 use Rattle.model.specs.declared.Bounds.{Bounds}
 use Rattle.model.specs.declared.Decision.{Decision}
-use Rattle.model.specs.declared.Decision.TheVariants as Decision
 use Rattle.model.specs.declared.ExecutionClass.{ExecutionClass}
 use Rattle.model.specs.declared.ExecutionClass.TheVariants as Class
 use Rattle.model.specs.declared.Reason.{Reason}
-use Rattle.model.specs.declared.Reason.TheVariants as Reason
 use Rattle.model.specs.declared.RuntimeState.{RuntimeState}
 use Rattle.model.specs.declared.RuntimeState.TheVariants as State
 use Rattle.model.specs.declared.Verification.{Verification}
-use Rattle.model.specs.declared.Verification.TheVariants as Verification
 use Rattle.format.specs.Kinds.{u32}
 use Rattle.format.specs.Decode.{bounds_of, class_of, verification_of}
 use Rattle.format.specs.Encode.{bit, part_at, min_at, max_at, class_number, state_number, verification_word, mask_word, value_word}

@@ -1,6 +1,6 @@
 -- What the 16 words of an input record stand for (docs/WIRE.md, "Input records"). A narrow field takes the low bits of its word; `within` has
 -- made sure that there are no others.
-use Rattle.std.specs.Prelude.{ℕ, ◌-◌, ◌%◌, Bool, cond, List, [], ◌∷◌, eqb, ltb, ℤ, pos, negsuc, get_or}
+use Rattle.std.specs.Prelude.{ℕ, ◌%◌, Bool, cond, List, [], ◌∷◌, eqb, ℤ, get_or}
 use Rattle.std.proofs.Math.Option.{Option, some, none}
 use Rattle.model.specs.declared.Action.{Action}
 use Rattle.model.specs.declared.Bounds.{Bounds}

@@ -1,5 +1,5 @@
 -- The 26 words of an output record (docs/WIRE.md, "Output records").
-use Rattle.std.specs.Prelude.{ℕ, ◌-◌, Bool, true, false, List, [], ◌∷◌, ◌++◌, ℤ, pos, negsuc, get_or, length, replicate}
+use Rattle.std.specs.Prelude.{ℕ, ◌-◌, Bool, true, false, List, [], ◌∷◌, ◌++◌, ℤ, pos, get_or, length, replicate}
 use Rattle.std.proofs.Math.Option.{some, none}
 use Rattle.model.specs.Decisions.{decision_number}
 use Rattle.model.specs.Reasons.{number}
@@ -15,7 +15,6 @@ use Rattle.model.specs.declared.RuntimeState.{RuntimeState}
 use Rattle.model.specs.declared.RuntimeState.TheVariants as State
 use Rattle.model.specs.declared.Snapshot.{Snapshot}
 use Rattle.model.specs.declared.Verification.{Verification}
-use Rattle.model.specs.declared.Verification.TheVariants as Verification
 use Rattle.rules.specs.Interaction.{Answer, Returned, Polled, Succeeded, Leased, Refused, Submitted}
 use Rattle.rules.specs.Protocol.{Item, ItemObserve, ItemExecute, ItemFallback, ItemRecord, Value, OfState, OfNumber, OfConfig, OfSnapshot, OfLease, OfCapability, OfReceipt, Output, Started, StartRefused, Hands, Answers, Reminds, Refuses, Shows, NoRuntime}
 use Rattle.words.specs.Signs.{unsigned}

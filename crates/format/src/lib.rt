@@ -1,6 +1,8 @@
 // What the words of a record stand for (docs/WIRE.md): the kind of an input record and its fields, and the words of an output record.
 // Promises: each function gives what the definitions in specs/ say, for every words; a record with a word above what its field can hold is of
 // no known kind. Rests on `model` for the records, and on `rules` for what goes in and comes out.
+#![tactic(auto)]
+
 ghost use Rattle.std.specs.Prelude.{[], ◌≡◌, ◌%◌, eqb};
 ghost use Rattle.model.specs.Decisions.{decision_number};
 ghost use Rattle.model.specs.Reasons.{number as reason_number};
@@ -17,7 +19,7 @@ use model::{
 use words::{signed, unsigned};
 
 // A call or a reply.
-#[derive(Drop)]
+#[derive(Clone, Copy)]
 pub enum TurnKind {
     Tick,
     UpdateState,
@@ -34,7 +36,7 @@ pub enum TurnKind {
     Recorded,
 }
 
-#[derive(Drop)]
+#[derive(Clone, Copy)]
 pub enum ReadingKind {
     State,
     Epoch,
@@ -49,7 +51,7 @@ pub enum ReadingKind {
 }
 
 // The kinds of input records.
-#[derive(Drop)]
+#[derive(Clone, Copy)]
 pub enum RecordKind {
     Capability,
     Start,

@@ -14,17 +14,11 @@ use Rattle.model.specs.declared.RuntimeState.{RuntimeState}
 use Rattle.format.specs.Encode.{state_number}
 use Rattle.format.proofs.FieldLaws.{state-back}
 use Rattle.state.specs.declared.AfterFallback.{AfterFallback}
-use Rattle.state.specs.declared.AfterFallback.TheVariants as AfterFallback
 use Rattle.state.specs.declared.AfterRecord.{AfterRecord}
-use Rattle.state.specs.declared.AfterRecord.TheVariants as AfterRecord
 use Rattle.state.specs.declared.AfterTrip.{AfterTrip}
-use Rattle.state.specs.declared.AfterTrip.TheVariants as AfterTrip
 use Rattle.state.specs.declared.Awaited.{Awaited}
-use Rattle.state.specs.declared.Awaited.TheVariants as Awaited
 use Rattle.state.specs.declared.CallKind.{CallKind}
-use Rattle.state.specs.declared.CallKind.TheVariants as CallKind
 use Rattle.decide_start.specs.declared.Stage.{Stage}
-use Rattle.decide_start.specs.declared.Stage.TheVariants as Stage
 use Rattle.rows.specs.Codes.{below, presence_of, presence_word, mode_of, awaited_of, awaited_word, after_record_of, after_record_word, after_fallback_of, after_fallback_word, after_trip_of, after_trip_word, call_kind_of, call_kind_word, stage_of, stage_word}
 
 -- a word past the last case ----------------------------------------------------------------------------------------------

@@ -1,15 +1,14 @@
 -- Decode after encode: signed numbers of 32 bits, two of them in one word, lists of two, the cases, and the rows of the tables. Assumes nothing.
-use Prim.Native.Nat.{ℕ, ◌-◌, ◌%◌, ◌<◌}
+use Prim.Native.Nat.{ℕ, ◌%◌, ◌<◌}
 use native.Mathlib.Nat.{mod-eq_of_lt}
 use native.Mathlib.Omega.{arith}
 use mathlib.Core.Bool.{Bool}
 use mathlib.Core.List.{List, [], ◌∷◌, map}
 use mathlib.Core.Path.{◌≡◌, refl, sym, ap, ◌∙◌}
-use borrow.Author.Tests.{lt-ltb, le-ltb}
 use borrow.Author.Rules.{rules}
 use denote.Laws.{Is}
 use lib.Dec.{eqb}
-use lib.IntN.{ℤ, pos, negsuc}
+use lib.IntN.{ℤ, pos}
 use lib.ListN.{length, get_or, length-map}
 use mir.Syntax.{w32}
 use mir.Val.{SFits, Val}
@@ -32,7 +31,6 @@ use Rattle.model.specs.declared.Renewal.{Renewal}
 use Rattle.model.specs.declared.ReplaySlot.{ReplaySlot}
 use Rattle.model.specs.declared.Submission.{Submission}
 use Rattle.model.specs.declared.Verification.{Verification}
-use Rattle.model.specs.declared.Verification.TheVariants as Verification
 use Rattle.format.specs.Decode.{bounds_of, class_of, verification_of, capability_of, request_of, renewal_of, action_of, submission_of}
 use Rattle.format.specs.Encode.{part_at, min_at, max_at, class_number, verification_word, mask_word, value_word, capability_words, lease_words}
 use Rattle.format.proofs.FieldLaws.{bit-back, decision-back, reason-back}

@@ -8,22 +8,15 @@ use Rattle.model.specs.declared.Decision.TheVariants.{Executed}
 use Rattle.model.specs.declared.Presence.{Presence}
 use Rattle.model.specs.declared.Presence.TheVariants.{Absent, Present}
 use Rattle.model.specs.declared.Reason.{Reason}
-use Rattle.model.specs.declared.Reason.TheVariants as Reason
 use Rattle.model.specs.declared.RuntimeState.{RuntimeState}
 use Rattle.model.specs.declared.RuntimeState.TheVariants as State
 use Rattle.model.specs.Reasons.{reasons}
 use Rattle.state.specs.declared.AfterFallback.{AfterFallback}
-use Rattle.state.specs.declared.AfterFallback.TheVariants as AfterFallback
 use Rattle.state.specs.declared.AfterRecord.{AfterRecord}
-use Rattle.state.specs.declared.AfterRecord.TheVariants as AfterRecord
 use Rattle.state.specs.declared.AfterTrip.{AfterTrip}
-use Rattle.state.specs.declared.AfterTrip.TheVariants as AfterTrip
 use Rattle.state.specs.declared.Awaited.{Awaited}
-use Rattle.state.specs.declared.Awaited.TheVariants as Awaited
 use Rattle.state.specs.declared.CallKind.{CallKind}
-use Rattle.state.specs.declared.CallKind.TheVariants as CallKind
 use Rattle.decide_start.specs.declared.Stage.{Stage}
-use Rattle.decide_start.specs.declared.Stage.TheVariants as Stage
 
 -- numbers ----------------------------------------------------------------------------------------------------------------
 

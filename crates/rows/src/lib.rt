@@ -1,5 +1,7 @@
 // The rows of words that the parts of the state are stored as (specs/Codes, specs/Rows). Promises: a row is read as its definition says, whatever
 // its words; the words of a part are those from which it is read again. Rests on `format` for the words of the records.
+#![tactic(auto)]
+
 ghost use Rattle.std.specs.Prelude.{◌<◌, ◌≡◌, pos, get_or};
 ghost use Rattle.format.specs.Decode.{capability_of, request_of, renewal_of, submission_of};
 ghost use Rattle.state.specs.State.{InBounds};
