@@ -1,6 +1,8 @@
 // Looks and stores over lent words (crate `runtime`, "look" and "store"): the first axis that is due, the place of a capability, the entry of an order;
 // a slot for the next receipt, a course followed, a refusal. Promises: whatever the words hold, an answer inside its table, as many words and the same
 // first one; where they are a sound runtime, what crate `runtime` promises of its own. Rests on `layout`, and on the decisions for the tests.
+#![tactic(auto)]
+
 ghost use Rattle.std.specs.Prelude.{◌+◌, ◌-◌, ◌%◌, ◌≤◌, ◌<◌, cond, ◌≡◌, eqb, ltb, get_or};
 ghost use Rattle.model.specs.Records.{no_lease, no_capability, no_replay};
 ghost use Rattle.receipts.specs.Indexes.{Numbered};

@@ -1,5 +1,7 @@
 // The words of a runtime (specs/Layout): each field read where it lies, and stored there. Promises: what is read is the field of the runtime that
 // the words are, whatever they hold; a store alters that field and nothing else. Rests on `cells` for the regions and on `rows` for the rows.
+#![tactic(auto)]
+
 ghost use Rattle.std.specs.Prelude.{◌<◌, ◌≡◌, get_or, set};
 ghost use Rattle.model.specs.Records.{no_lease, no_active, no_capability, no_replay, no_receipt};
 ghost use Rattle.rows.specs.Codes.{below};

@@ -1,0 +1,17 @@
+use Prim.Native.Nat.{◌-◌}
+use mathlib.Core.Path.{◌≡◌}
+use lib.Bits.{bit_or}
+use Rattle.rules.specs.Admission.{allowed}
+use Rattle.runtime.specs.Promises.{Good}
+use Rattle.runtime.specs.Runtimes.{tables_in}
+use Rattle.runtime.proofs.Looks.{records_from}
+use Rattle.layout.specs.Layout.{runtime_in}
+use Rattle.host_store.proofs.look_allowed.Given as goal
+
+abbrev pub invariant-loop-i : goal.invariant-loop-i
+invariant-loop-i l =
+    Good (runtime_in l.state)
+    → bit_or l.mask (allowed (records_from (runtime_in l.state) l.i) l.axis) ≡ allowed (tables_in (runtime_in l.state)).capabilities l.axis
+
+abbrev pub decreases-loop-i : goal.decreases-loop-i
+decreases-loop-i l = l.count - l.i

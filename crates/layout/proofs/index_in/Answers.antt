@@ -1,0 +1,6 @@
+use Rattle.layout.proofs.Fields.{index_read}
+use borrow.Author.Rules.{rules}
+use Rattle.layout.proofs.index_in.Goals as goal
+
+pub returns : goal.returns
+returns c = index_read _ _ c.read16.ensures c.index_of.ensures

@@ -1,0 +1,6 @@
+use Rattle.layout.proofs.Fields.{request-read}
+use borrow.Author.Rules.{rules}
+use Rattle.layout.proofs.request_in.Goals as goal
+
+pub returns : goal.returns
+returns c = request-read _ _ c.read16.ensures c.request_of.ensures

@@ -1,0 +1,6 @@
+use Rattle.layout.proofs.Fields.{submitted-read}
+use borrow.Author.Rules.{rules}
+use Rattle.layout.proofs.submitted_in.Goals as goal
+
+pub returns : goal.returns
+returns c = submitted-read _ _ c.read24.ensures c.receipt_of.ensures
