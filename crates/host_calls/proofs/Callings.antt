@@ -19,7 +19,6 @@ use Rattle.rows.specs.Rows.{falling_of, falling_words}
 use Rattle.state.specs.Axes.{first_used, used_from}
 use Rattle.state.specs.State.{InBounds, after_tick, phase_of, waits}
 use Rattle.state.specs.declared.Answer.{Answer}
-use Rattle.state.specs.declared.Answer.TheVariants as Answer
 use Rattle.state.specs.declared.Awaited.TheVariants as Awaited
 use Rattle.state.specs.declared.CallKind.TheVariants as CallKind
 use Rattle.state.specs.declared.Falling.{Falling}
@@ -29,7 +28,6 @@ use Rattle.state.specs.declared.Pending.{Pending}
 use Rattle.state.specs.declared.Waiting.{Waiting}
 use Rattle.decide_start.specs.Starts.{is_started, away_by, unheard_by, tried_at, over_by, trial_of}
 use Rattle.decide_start.specs.declared.Stage.{Stage}
-use Rattle.decide_start.specs.declared.Stage.TheVariants as Stage
 use Rattle.decide_start.specs.declared.Starting.{Starting}
 use Rattle.decide_start.specs.declared.Trial.{Trial}
 use Rattle.decide_tick.specs.declared.Begun.{Begun}

@@ -1,6 +1,8 @@
 // The runtime's calls and replies over lent words (crate `runtime`, "calls" and "replies of the driver"): who is heard. Promises: whatever the words hold,
 // as many and the same first one; where they are a sound runtime's, its start included, they stand where the rules say, and what is turned away leaves
 // every word. Rests on `host_steps`, `host_replies` and `decide_start`.
+#![tactic(auto)]
+
 ghost use Rattle.rules.specs.Protocol.{begin as begin_rule, start_from, Calls, Tick, UpdateState, EmergencyStop, PollEstop, RecoverLocal, Acquire, Renew, Cancel, Submit};
 ghost use Rattle.state.specs.Axes.{used_from};
 ghost use Rattle.state.specs.declared.Awaited.TheVariants.{Nothing};

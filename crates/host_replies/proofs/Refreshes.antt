@@ -13,7 +13,6 @@ use Rattle.state.specs.State.{book_of, after_tick, tick_end, after_fallback_of, 
 use Rattle.state.specs.Stores.{awaiting}
 use Rattle.state.specs.declared.AfterFallback.TheVariants as AfterFallback
 use Rattle.state.specs.declared.Answer.{Answer}
-use Rattle.state.specs.declared.Answer.TheVariants as Answer
 use Rattle.state.specs.declared.Awaited.TheVariants as Awaited
 use Rattle.state.specs.declared.Falling.{Falling}
 use Rattle.state.specs.declared.Numbers.{Numbers}
@@ -23,7 +22,7 @@ use Rattle.state.proofs.Axes.{first-miss}
 use Rattle.decide_tick.proofs.Due.{is_over, none-due, refreshes}
 use Rattle.runtime.specs.declared.Runtime.{Runtime}
 use Rattle.runtime.specs.Promises.{Good, MovesIn}
-use Rattle.runtime.specs.Runtimes.{tables_in, asked_in, state_in, book_on}
+use Rattle.runtime.specs.Runtimes.{tables_in, asked_in, book_on}
 use Rattle.host_steps.specs.declared.Onward.TheVariants as Onward
 use Rattle.host_steps.specs.Onward.{Comes, ComesTo}
 use Rattle.layout.specs.Fields.{with_numbers, with_waiting}
@@ -31,7 +30,6 @@ use Rattle.layout.specs.Layout.{runtime_in, Becomes}
 use Rattle.layout.specs.Promises.{Goes}
 use Rattle.layout.proofs.Chains.{becomes-then, goes_by}
 use Rattle.host_replies.specs.declared.Resuming.{Resuming}
-use Rattle.host_replies.specs.declared.Resuming.TheVariants as Resuming
 use Rattle.host_replies.specs.Altered.{fresh_numbers, refreshed_in, ResumesAs}
 
 -- the state refreshed ---------------------------------------------------------------------------------------------------------

@@ -6,7 +6,6 @@ use mathlib.Core.Option.{some}
 use mathlib.Core.Path.{◌≡◌, refl, sym, ap, ◌∙◌, subst}
 use borrow.Author.Tests.{lt-ltb}
 use native.Mathlib.Omega.{arith}
-use lib.Dec.{T}
 use lib.ListN.{get_or, set}
 use Rattle.model.specs.declared.Capability.{Capability}
 use Rattle.model.specs.declared.LeaseSlot.{LeaseSlot}
@@ -20,12 +19,11 @@ use Rattle.rules.specs.Interaction.{Interaction, Submitted, Done, Observe, Execu
 use Rattle.rules.specs.Protocol as Protocol
 use Rattle.rules.specs.Protocol.{Reaction, Replies, proceed, react}
 use Rattle.rules.specs.Rules.{fail, complete, trip}
-use Rattle.state.specs.State.{State, Tables, Asked, Hand, state, book_of, progress_of, carries, after_fell_back, after_fallback, after_tick, after_trip, phase_of, reaction_of, InBounds, Sound, Moves}
+use Rattle.state.specs.State.{State, Tables, Asked, Hand, state, book_of, progress_of, carries, after_fell_back, after_fallback, after_trip, phase_of, reaction_of, InBounds, Sound, Moves}
 use Rattle.state.specs.Stores.{awaiting, recorded, goes_on, Settles, Leads, Takes, TakesWhere}
 use Rattle.state.specs.declared.AfterRecord.TheVariants as AfterRecord
 use Rattle.state.specs.declared.AfterTrip.TheVariants as AfterTrip
 use Rattle.state.specs.declared.Answer.{Answer}
-use Rattle.state.specs.declared.Answer.TheVariants as Answer
 use Rattle.state.specs.declared.Awaited.TheVariants as Awaited
 use Rattle.state.specs.declared.Awaited.TheVariants.{ObserveAfter}
 use Rattle.state.specs.declared.Carrying.{Carrying}
@@ -39,11 +37,8 @@ use Rattle.state.specs.declared.Waiting.{Waiting}
 use Rattle.decide_reply.specs.Replies.{told, completing, completed, observation_in, seen_by, failed_by, reason_by, unexecuted_by, ObservesAs, ExecutesAs, RecordsAs}
 use Rattle.decide_reply.specs.declared.Observed.{Observed}
 use Rattle.decide_reply.specs.declared.OnExecuted.{OnExecuted}
-use Rattle.decide_reply.specs.declared.OnExecuted.TheVariants as OnExecuted
 use Rattle.decide_reply.specs.declared.OnObserved.{OnObserved}
-use Rattle.decide_reply.specs.declared.OnObserved.TheVariants as OnObserved
 use Rattle.decide_reply.specs.declared.OnRecorded.{OnRecorded}
-use Rattle.decide_reply.specs.declared.OnRecorded.TheVariants as OnRecorded
 use Rattle.decide_reply.specs.declared.Completing.{Completing}
 use Rattle.decide_resume.specs.declared.Search.{Search}
 use Rattle.decide_resume.specs.Searches.{ShowsSought, Seeks, ShowsNext}

@@ -5,12 +5,10 @@ use Rattle.runtime.specs.declared.Runtime.{Runtime}
 use Rattle.state.specs.Stores.{awaiting}
 use Rattle.state.specs.declared.Awaited.TheVariants as Awaited
 use Rattle.state.specs.declared.AfterFallback.{AfterFallback}
-use Rattle.state.specs.declared.AfterFallback.TheVariants as AfterFallback
 use Rattle.state.specs.declared.Numbers.{Numbers}
 use Rattle.state.specs.declared.Waiting.{Waiting}
 use Rattle.layout.specs.Fields.{with_waiting, with_numbers, with_carrying}
 use Rattle.host_replies.specs.declared.Resuming.{Resuming}
-use Rattle.host_replies.specs.declared.Resuming.TheVariants as Resuming
 
 -- an order in the driver's hands, with the state observed before
 abbrev pub executing : ℕ → Runtime → Runtime

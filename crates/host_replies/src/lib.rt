@@ -1,6 +1,8 @@
 // Replies over lent words (crate `runtime`, "replies"): look, decide, store. Promises: whatever the words hold, as many and the same first one; where they
 // are a sound runtime, they stand where the rules say, and a reply that is turned away leaves every word. Rests on `decide_reply` and `decide_resume`, on
 // `host_store`, and on `host_steps` for the call in hand.
+#![tactic(auto)]
+
 ghost use Rattle.std.proofs.Math.Option.{some};
 ghost use Rattle.std.specs.Prelude.{◌≡◌};
 ghost use Rattle.rules.specs.Interaction.{Done, Submitted, Succeeded};
@@ -176,7 +178,7 @@ fn resume_on(state: &mut [u64]) -> Onward
 }
 
 // What follows a fallback: the end of a cancel or the next of the expiries, where it succeeded, or anything.
-#[derive(Drop)]
+#[derive(Clone, Copy)]
 pub enum Resuming {
     Cancel,
     Expiry,

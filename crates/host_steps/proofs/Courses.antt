@@ -17,7 +17,6 @@ use Rattle.state.specs.State.{Tables, book_of, InBounds, after_trip, after_tick}
 use Rattle.state.specs.Stores.{awaiting, goes_on, Settles, Leads, Takes, TakesWhere}
 use Rattle.state.specs.declared.AfterTrip.TheVariants as AfterTrip
 use Rattle.state.specs.declared.Answer.{Answer}
-use Rattle.state.specs.declared.Answer.TheVariants as Answer
 use Rattle.state.specs.declared.Awaited.TheVariants as Awaited
 use Rattle.state.specs.declared.CallKind.TheVariants as CallKind
 use Rattle.state.specs.declared.Course.{Course}
@@ -42,7 +41,6 @@ use Rattle.layout.specs.Layout.{runtime_in, Becomes}
 use Rattle.layout.specs.Promises.{Goes}
 use Rattle.host_store.specs.Stores.{Follows}
 use Rattle.host_steps.specs.declared.Onward.{Onward}
-use Rattle.host_steps.specs.declared.Onward.TheVariants as Onward
 use Rattle.host_steps.specs.Altered.{sooner_at, pending_at, BeginsIn, TightensIn}
 use Rattle.host_steps.specs.Onward.{Comes, ComesTo, Concludes}
 use Rattle.layout.proofs.Chains.{same-words, same_then, becomes-then, goes_by}

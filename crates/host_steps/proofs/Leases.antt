@@ -23,9 +23,7 @@ use Rattle.rules.specs.Rules.{grant, renewed}
 use Rattle.state.specs.Axes.{first_held}
 use Rattle.state.specs.State.{Tables, Asked, Hand, state, book_of, Sound, Moves}
 use Rattle.state.specs.declared.AfterRecord.{AfterRecord}
-use Rattle.state.specs.declared.AfterRecord.TheVariants as AfterRecord
 use Rattle.state.specs.declared.Answer.{Answer}
-use Rattle.state.specs.declared.Answer.TheVariants as Answer
 use Rattle.state.specs.declared.Fixed.{Fixed}
 use Rattle.state.specs.declared.Numbers.{Numbers}
 use Rattle.decide_ready.specs.Checks.{failure_of}

@@ -24,9 +24,7 @@ use Rattle.rules.specs.Rules.{original, reject, admit}
 use Rattle.state.specs.State.{Tables, Asked, Hand, state, book_of, Sound, Moves}
 use Rattle.state.specs.Stores.{awaiting}
 use Rattle.state.specs.declared.AfterRecord.{AfterRecord}
-use Rattle.state.specs.declared.AfterRecord.TheVariants as AfterRecord
 use Rattle.state.specs.declared.Answer.{Answer}
-use Rattle.state.specs.declared.Answer.TheVariants as Answer
 use Rattle.state.specs.declared.Awaited.TheVariants as Awaited
 use Rattle.state.specs.declared.Carrying.{Carrying}
 use Rattle.state.specs.declared.Fixed.{Fixed}

@@ -8,7 +8,6 @@ use Rattle.runtime.specs.Promises.{Good, MovesIn}
 use Rattle.runtime.specs.Runtimes.{asked_in, book_on}
 use Rattle.layout.specs.Layout.{runtime_in, Same}
 use Rattle.host_steps.specs.declared.Onward.{Onward}
-use Rattle.host_steps.specs.declared.Onward.TheVariants as Onward
 
 -- what the rules say, if that is what comes: the runtime stands there, or its call goes there
 unfoldable pub Comes : Onward → Runtime → Reaction → Type 0

@@ -1,5 +1,7 @@
 // What calls do after their opening tick, over lent words (crate `runtime`, "tick" to "orders"): look, decide, store. Promises: whatever the words hold,
 // as many and the same first one; where they are a sound runtime, they stand where the rules say. Rests on the decisions and on `host_store`.
+#![tactic(auto)]
+
 ghost use Rattle.std.specs.Prelude.{◌+◌, ◌<◌, true, ◌&&◌, ◌≡◌, leb, ltb};
 ghost use Rattle.std.proofs.Math.Option.{none};
 ghost use Rattle.rules.specs.Admission.{first_failing, acquire_checks, renew_checks, held_axis, order_capability, admission, validate};
@@ -441,7 +443,7 @@ fn go_on(state: &mut [u64]) -> Answer
 }
 
 // What is to come: an answer, or what the call in hand does after its opening tick.
-#[derive(Drop)]
+#[derive(Clone, Copy)]
 pub enum Onward {
     Answers(Answer),
     GoesOn,

@@ -1,0 +1,8 @@
+use Rattle.host_calls.proofs.Callings.{away-steps, recover-steps}
+use Rattle.host_calls.proofs.recover_local.Goals as goal
+
+pub returns-then-may_begin : goal.returns-then-may_begin
+returns-then-may_begin c = recover-steps _ c.starting_in-starting.ensures c.waiting_in-waiting.ensures c.may_begin.ensures c.if-may_begin.true c.args.time c.run.ensures c.asking.ensures c.put_pending.ensures
+
+pub returns : goal.returns
+returns c = away-steps _ c.starting_in-starting.ensures c.waiting_in-waiting.ensures c.may_begin.ensures _ c.if-may_begin.false c.turned_away.ensures

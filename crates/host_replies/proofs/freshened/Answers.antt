@@ -1,0 +1,4 @@
+use Rattle.host_replies.proofs.freshened.Goals as goal
+
+pub returns : goal.returns
+returns c = rw c.refreshed.ensures
