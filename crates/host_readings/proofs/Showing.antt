@@ -16,7 +16,6 @@ use Rattle.model.specs.declared.Submission.{Submission}
 use Rattle.model.specs.Records.{no_lease, no_capability, no_receipt}
 use Rattle.receipts.specs.Indexes.{Numbered, Points}
 use Rattle.receipts.specs.declared.Found.{Found}
-use Rattle.receipts.specs.declared.Found.TheVariants as Found
 use Rattle.receipts.specs.declared.Index.{Index}
 use Rattle.receipts.proofs.Circles.{lt-or-ge}
 use Rattle.rows.specs.Rows.{carrying_of}

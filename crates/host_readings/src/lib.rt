@@ -1,5 +1,7 @@
 // What a host sees of lent words (crate `runtime`, "what a host sees" and "readings"). Promises: where the words are a sound runtime's, its start included,
 // the item whose reply is awaited, what an answer speaks of, and what the rules' readings show. Rests on `decide_read` and on `layout`.
+#![tactic(auto)]
+
 ghost use Rattle.decide_read.specs.Shown.{shown_item};
 ghost use Rattle.rules.specs.Interaction.{Leased};
 ghost use Rattle.rules.specs.Protocol.{awaited_in, Answers, ReadEpoch, ReadBootId, ReadFlags, ReadReceiptCount};

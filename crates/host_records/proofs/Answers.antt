@@ -23,7 +23,6 @@ use Rattle.rules.specs.Protocol as Protocol
 use Rattle.state.specs.State.{Hand, Asked, item_at, item_of, output_of}
 use Rattle.state.specs.declared.Answer.{Answer}
 use Rattle.state.specs.declared.Awaited.{Awaited}
-use Rattle.state.specs.declared.Awaited.TheVariants as Awaited
 use Rattle.state.specs.declared.Carrying.{Carrying}
 use Rattle.state.specs.declared.Falling.{Falling}
 use Rattle.state.specs.declared.Waiting.{Waiting}
@@ -47,7 +46,6 @@ use Rattle.host_start.specs.Starts.{ListsOne, Makes}
 use Rattle.host_records.specs.Records.{step, told, answer_words}
 use Rattle.host_records.specs.Standings.{ReadsAs, Says, Answered, Goes, Takes}
 use Rattle.host_records.specs.declared.Taken.{Taken}
-use Rattle.host_records.specs.declared.Taken.TheVariants as Taken
 
 -- items --------------------------------------------------------------------------------------------------------------------
 
@@ -60,14 +58,14 @@ item_by Awaited.ObserveAfter f c ps r = ItemObserve c.resource
 item_by Awaited.Fallback f c ps r = ItemFallback f.axis f.reason
 item_by Awaited.Record f c ps r = ItemRecord r
 
-item_by : (a : Awaited) (h : Hand) (q : Asked) → item_by a h.falling h.order.capability q.submission.action.parameters h.receipt ≡ item_at a h q
+item-by : (a : Awaited) (h : Hand) (q : Asked) → item_by a h.falling h.order.capability q.submission.action.parameters h.receipt ≡ item_at a h q
 unfolding item_by item_at
-item_by Awaited.Nothing h q = refl
-item_by Awaited.ObserveBefore h q = refl
-item_by Awaited.Execute h q = refl
-item_by Awaited.ObserveAfter h q = refl
-item_by Awaited.Fallback h q = refl
-item_by Awaited.Record h q = refl
+item-by Awaited.Nothing h q = refl
+item-by Awaited.ObserveBefore h q = refl
+item-by Awaited.Execute h q = refl
+item-by Awaited.ObserveAfter h q = refl
+item-by Awaited.Fallback h q = refl
+item-by Awaited.Record h q = refl
 
 pub item-put : (h : Runtime) (n : ℕ) {waiting : Waiting} {carrying : Carrying} {capability : Capability} {submission : Submission} {falling : Falling} {slot : ℕ}
     {receipt : Receipt} {a : Awaited} {r : List ℕ} → waiting ≡ h.waiting → carrying ≡ h.carrying
@@ -75,7 +73,7 @@ pub item-put : (h : Runtime) (n : ℕ) {waiting : Waiting} {carrying : Carrying}
     → receipt ≡ get_or h.slots slot no_receipt → waiting.awaited ≡ a
     → r ≡ item_words n (item_by a falling capability submission.action.parameters receipt) → r ≡ item_words n (item_of (state_in h))
 item-put h n w c k m f p x t e =
-    rw (e, sym t, w, f, k, c, m, x, p) (ap (item_words n) (item_by h.waiting.awaited (hand_in h) (asked_in h)))
+    rw (e, sym t, w, f, k, c, m, x, p) (ap (item_words n) (item-by h.waiting.awaited (hand_in h) (asked_in h)))
 
 -- what is seen -------------------------------------------------------------------------------------------------------------
 

@@ -11,7 +11,7 @@ use Rattle.rules.proofs.Theorem.{demands}
 use Rattle.format.specs.Decode.{Record, Lists, Starts, Feeds, Malformed}
 use Rattle.runtime.specs.Stages.{RuntimeSound}
 use Rattle.layout.specs.Layout.{runtime_in}
-use Rattle.host_records.specs.Records.{Standing, opening, told, step, answers_from, standing_after, answer_words}
+use Rattle.host_records.specs.Records.{Standing, opening, told, step, answers_from, standing_after}
 use Rattle.host_records.specs.Standings.{Stands, Goes}
 use Rattle.host_records.specs.Claim.{inputs_of, lives_from, lives_in, outputs_in, joined, RecordsClaim, begun_by, lives_after, StartedClaim, Stepping, here, then, leaves, Whole, SteppedTo}
 

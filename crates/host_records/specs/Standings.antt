@@ -15,7 +15,6 @@ use Rattle.runtime.specs.Stages.{phase_in, RuntimeSound}
 use Rattle.state.specs.State.{output_of}
 use Rattle.layout.specs.Layout.{runtime_in, listing_in}
 use Rattle.host_records.specs.declared.Taken.{Taken}
-use Rattle.host_records.specs.declared.Taken.TheVariants as Taken
 use Rattle.host_records.specs.Records.{Standing, RecordStep, Listed, Unread, step, answer_words}
 
 -- what is listed for the next start, and the phase of the life in hand

@@ -1,6 +1,8 @@
 // Records over lent words (docs/WIRE.md): one record in, the words of its answer out, and the state where it was lent. Promises: whatever the words hold,
 // as many and the same first one; where they are a sound runtime's, its start included, they stand where the definitions of the records say, and the answer's
 // words are theirs. Rests on `format` for what words stand for, and on the calls, readings and start in lent words.
+#![tactic(auto)]
+
 ghost use Rattle.std.specs.Prelude.{cond, ◌≡◌};
 ghost use Rattle.model.specs.declared.Presence.TheVariants.{Absent, Present};
 ghost use Rattle.rules.specs.Protocol.{OfLease};
@@ -267,7 +269,7 @@ fn turn(state: &mut [u64], kind: TurnKind, words: [u64; 16]) -> Answer
 }
 
 // What a record did. The words of its answer are made once that is over, so that they take no stack beside it.
-#[derive(Drop)]
+#[derive(Clone, Copy)]
 pub enum Taken {
     Listed,
     Answered(Answer),

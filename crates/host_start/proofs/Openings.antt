@@ -1,5 +1,5 @@
 -- The words that a start makes: what is stored over zeros is a fresh runtime. Assumes nothing.
-use Prim.Native.Nat.{ℕ, zero, ◌<◌, ◌≤◌}
+use Prim.Native.Nat.{ℕ, ◌<◌, ◌≤◌}
 use mathlib.Core.Bool.{Bool, true, false, cond}
 use mathlib.Core.List.{List}
 use mathlib.Core.Path.{◌≡◌, refl, sym, ap, ◌∙◌, subst}

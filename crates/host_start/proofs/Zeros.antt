@@ -3,7 +3,6 @@ use Prim.Native.Nat.{ℕ, ◌+◌, ◌*◌, ◌<◌, ◌≤◌}
 use Rattle.words.specs.Signs.{signed}
 use Rattle.cells.proofs.Regions.{part-zero, table-zero, length-table}
 use Rattle.cells.specs.Cells.{tab, part, table}
-use Rattle.decide_start.specs.declared.Stage.TheVariants as Stage
 use Rattle.decide_start.specs.declared.Stage.{Stage}
 use Rattle.format.specs.Decode.{bounds_of, class_of, verification_of, capability_of}
 use Rattle.layout.specs.Layout.{runtime_in, places_in, slot_number_of}
@@ -16,7 +15,6 @@ use Rattle.replay.proofs.Kept.{emptied}
 use Rattle.replay.specs.Promises as Replay
 use Rattle.rows.specs.Codes.{below}
 use Rattle.rows.specs.Rows.{carrying_of, lease_slot_of, active_slot_of, replay_slot_of, receipt_of, index_of, waiting_of, starting_of, fixed_of}
-use Rattle.rules.specs.Protocol.{start}
 use Rattle.runtime.proofs.Openings.{empties}
 use Rattle.runtime.specs.Promises.{Kept}
 use Rattle.runtime.specs.Runtimes.{ring_in}

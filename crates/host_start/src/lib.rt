@@ -1,6 +1,8 @@
 // A start over lent words (crate `runtime`, "start"): capabilities are listed one by one, then a start checks them where they stand and makes the words
 // those of a runtime. Promises: whatever the words hold, as many and the same first word; the runtime is the one that the rules start with what is
 // listed, and nothing stays listed. Rests on `decide_start` for the checks and on `layout` for the words.
+#![tactic(auto)]
+
 ghost use Rattle.std.specs.Prelude.{ℕ, ◌≤◌, ◌<◌, false, List, [], ◌∷◌, ◌++◌, ◌≡◌, eqb, get_or, take};
 ghost use Rattle.model.specs.Records.{no_capability};
 ghost use Rattle.model.specs.declared.Capability.{Capability};

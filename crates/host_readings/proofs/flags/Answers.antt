@@ -1,0 +1,5 @@
+use Rattle.runtime.proofs.Showing.{flags-reads}
+use Rattle.host_readings.proofs.flags.Goals as goal
+
+pub returns : goal.returns
+returns c = rw (c.number_shown.ensures, c.starting_in-starting.ensures, c.numbers_in-numbers.ensures) (flags-reads _)

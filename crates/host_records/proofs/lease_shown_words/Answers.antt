@@ -1,0 +1,10 @@
+use Rattle.format.specs.Encode.{encode}
+use Rattle.host_records.proofs.lease_shown_words.Goals as goal
+
+pub returns-in-Absent : goal.returns-in-Absent
+unfolding encode
+returns-in-Absent c = rw c.in-Absent.is c.plain_words.ensures
+
+pub returns-in-Present : goal.returns-in-Present
+unfolding encode
+returns-in-Present c = rw c.in-Present.is c.lease_slot_words.ensures
