@@ -1,6 +1,8 @@
 // A runtime in words that a host in C or Rust lends (docs/HOST.md): the calls, replies and readings of `host_calls`, `host_start`, `host_readings` and
 // `host_records` as functions on plain numbers and slices of words. Promises, with no condition: words that are not 2,464 or have another first one are turned away
 // and left; lent words are answered whatever they hold; where they are a sound runtime's, they stand where the rules say, and what is told are the rules' outputs.
+#![tactic(auto)]
+
 ghost use Rattle.std.specs.Prelude.{◌+◌, ◌*◌, ◌≤◌, ◌≡◌, eqb, length};
 ghost use Rattle.rules.specs.Protocol.{Calls, Tick, UpdateState, EmergencyStop, PollEstop, RecoverLocal, Renew, Cancel, Replies, Observed as ObservedReply, Executed as ExecutedReply, FellBack as FellBackReply, Recorded as RecordedReply, awaited_in, ReadState, ReadEpoch, ReadBootId, ReadFlags, ReadReceiptCount, ReadConfig, ReadSnapshot, ReadLease, ReadCapability, ReadReceipt};
 ghost use Rattle.state.specs.declared.Answer.TheVariants as Answered;
@@ -121,8 +123,7 @@ fn is_read(words: [u64; 16]) -> bool
 }
 
 // How many words a host lends.
-#[unsafe(no_mangle)]
-pub extern "C" fn rolthai_size() -> usize
+pub fn rolthai_size() -> usize
     ensures { result ≡ 2464 }
 {
     2464
@@ -131,8 +132,7 @@ pub extern "C" fn rolthai_size() -> usize
 // a start ----------------------------------------------------------------------------------------------------------------
 
 // No runtime, and nothing listed: for a host that steps by records.
-#[unsafe(no_mangle)]
-pub extern "C" fn rolthai_clear(state: &mut [u64]) -> u32
+pub fn rolthai_clear(state: &mut [u64]) -> u32
     ensures { Wipes state.old state.new result }
 {
     if !is_whole(state) {
@@ -219,8 +219,7 @@ fn list_all(state: &mut [u64], f: &[u64], count: usize)
 }
 
 // A runtime from the words of a start (words 1 to 9 of its record) and of its capabilities (words 1 to 13 of each), whatever the lent words were.
-#[unsafe(no_mangle)]
-pub extern "C" fn rolthai_new(state: &mut [u64], start: &[u64], capabilities: &[u64]) -> u32
+pub fn rolthai_new(state: &mut [u64], start: &[u64], capabilities: &[u64]) -> u32
     ensures { Begins state.old state.new result start.now capabilities.now }
 {
     if !is_whole(state) {
@@ -245,8 +244,7 @@ pub extern "C" fn rolthai_new(state: &mut [u64], start: &[u64], capabilities: &[
 
 // calls ------------------------------------------------------------------------------------------------------------------
 
-#[unsafe(no_mangle)]
-pub extern "C" fn rolthai_tick(state: &mut [u64], time: u64) -> u32
+pub fn rolthai_tick(state: &mut [u64], time: u64) -> u32
     ensures { Asks state.old state.new result (Feeds (Calls (Tick time))) }
 {
     let fault = fault(state);
@@ -256,8 +254,7 @@ pub extern "C" fn rolthai_tick(state: &mut [u64], time: u64) -> u32
     number_of(tick(state, time))
 }
 
-#[unsafe(no_mangle)]
-pub extern "C" fn rolthai_update_state(state: &mut [u64], flags: u32, time: u64) -> u32
+pub fn rolthai_update_state(state: &mut [u64], flags: u32, time: u64) -> u32
     ensures { Asks state.old state.new result (Feeds (Calls (UpdateState flags time))) }
 {
     let fault = fault(state);
@@ -267,8 +264,7 @@ pub extern "C" fn rolthai_update_state(state: &mut [u64], flags: u32, time: u64)
     number_of(update_state(state, flags, time))
 }
 
-#[unsafe(no_mangle)]
-pub extern "C" fn rolthai_emergency_stop(state: &mut [u64], time: u64) -> u32
+pub fn rolthai_emergency_stop(state: &mut [u64], time: u64) -> u32
     ensures { Asks state.old state.new result (Feeds (Calls (EmergencyStop time))) }
 {
     let fault = fault(state);
@@ -278,8 +274,7 @@ pub extern "C" fn rolthai_emergency_stop(state: &mut [u64], time: u64) -> u32
     number_of(emergency_stop(state, time))
 }
 
-#[unsafe(no_mangle)]
-pub extern "C" fn rolthai_poll_estop(state: &mut [u64], raised: u32, time: u64) -> u32
+pub fn rolthai_poll_estop(state: &mut [u64], raised: u32, time: u64) -> u32
     ensures { Asks state.old state.new result (Feeds (Calls (PollEstop raised time))) }
 {
     let fault = fault(state);
@@ -289,8 +284,7 @@ pub extern "C" fn rolthai_poll_estop(state: &mut [u64], raised: u32, time: u64) 
     number_of(poll_estop(state, raised, time))
 }
 
-#[unsafe(no_mangle)]
-pub extern "C" fn rolthai_recover_local(state: &mut [u64], time: u64) -> u32
+pub fn rolthai_recover_local(state: &mut [u64], time: u64) -> u32
     ensures { Asks state.old state.new result (Feeds (Calls (RecoverLocal time))) }
 {
     let fault = fault(state);
@@ -333,8 +327,7 @@ fn acquire_record(f: &[u64]) -> [u64; 16]
 }
 
 // Words 1 to 9 of its record.
-#[unsafe(no_mangle)]
-pub extern "C" fn rolthai_acquire(state: &mut [u64], request: &[u64]) -> u32
+pub fn rolthai_acquire(state: &mut [u64], request: &[u64]) -> u32
     ensures { Asks state.old state.new result (asked 21 9 request.now) }
 {
     let fault = fault(state);
@@ -351,8 +344,7 @@ pub extern "C" fn rolthai_acquire(state: &mut [u64], request: &[u64]) -> u32
     number_of(acquire(state, request_of(words), words[1]))
 }
 
-#[unsafe(no_mangle)]
-pub extern "C" fn rolthai_renew(
+pub fn rolthai_renew(
     state: &mut [u64],
     owner: u64,
     lease: u64,
@@ -376,8 +368,7 @@ pub extern "C" fn rolthai_renew(
     number_of(renew(state, asked))
 }
 
-#[unsafe(no_mangle)]
-pub extern "C" fn rolthai_cancel(state: &mut [u64], owner: u64, lease: u64, time: u64) -> u32
+pub fn rolthai_cancel(state: &mut [u64], owner: u64, lease: u64, time: u64) -> u32
     ensures { Asks state.old state.new result (Feeds (Calls (Cancel owner lease time))) }
 {
     let fault = fault(state);
@@ -415,8 +406,7 @@ fn submit_record(f: &[u64]) -> [u64; 16]
 }
 
 // Words 1 to 15 of its record.
-#[unsafe(no_mangle)]
-pub extern "C" fn rolthai_submit(state: &mut [u64], order: &[u64]) -> u32
+pub fn rolthai_submit(state: &mut [u64], order: &[u64]) -> u32
     ensures { Asks state.old state.new result (asked 24 15 order.now) }
 {
     let fault = fault(state);
@@ -436,14 +426,7 @@ pub extern "C" fn rolthai_submit(state: &mut [u64], order: &[u64]) -> u32
 // replies of the driver --------------------------------------------------------------------------------------------------
 
 // With `ok` false the values and the sensed state are not read.
-#[unsafe(no_mangle)]
-pub extern "C" fn rolthai_observed(
-    state: &mut [u64],
-    ok: bool,
-    value0: i32,
-    value1: i32,
-    sensed: u32,
-) -> u32
+pub fn rolthai_observed(state: &mut [u64], ok: bool, value0: i32, value1: i32, sensed: u32) -> u32
     ensures { Asks state.old state.new result (Feeds (Replies (ObservedReply (observed_with ok value0 value1 sensed)))) }
 {
     let fault = fault(state);
@@ -461,8 +444,7 @@ pub extern "C" fn rolthai_observed(
     number_of(observed(state, reply))
 }
 
-#[unsafe(no_mangle)]
-pub extern "C" fn rolthai_executed(state: &mut [u64], ok: bool) -> u32
+pub fn rolthai_executed(state: &mut [u64], ok: bool) -> u32
     ensures { Asks state.old state.new result (Feeds (Replies (ExecutedReply ok))) }
 {
     let fault = fault(state);
@@ -472,8 +454,7 @@ pub extern "C" fn rolthai_executed(state: &mut [u64], ok: bool) -> u32
     number_of(executed(state, ok))
 }
 
-#[unsafe(no_mangle)]
-pub extern "C" fn rolthai_fell_back(state: &mut [u64], ok: bool) -> u32
+pub fn rolthai_fell_back(state: &mut [u64], ok: bool) -> u32
     ensures { Asks state.old state.new result (Feeds (Replies (FellBackReply ok))) }
 {
     let fault = fault(state);
@@ -483,8 +464,7 @@ pub extern "C" fn rolthai_fell_back(state: &mut [u64], ok: bool) -> u32
     number_of(fell_back(state, ok))
 }
 
-#[unsafe(no_mangle)]
-pub extern "C" fn rolthai_recorded(state: &mut [u64]) -> u32
+pub fn rolthai_recorded(state: &mut [u64]) -> u32
     ensures { Asks state.old state.new result (Feeds (Replies RecordedReply)) }
 {
     let fault = fault(state);
@@ -513,8 +493,7 @@ fn item_shown_words(shown: ItemShown) -> [u64; 26]
 }
 
 // The item whose reply is awaited: a record of kind 16 to 19, or 5 with 112.
-#[unsafe(no_mangle)]
-pub extern "C" fn rolthai_item(state: &[u64], out: &mut [u64]) -> u32
+pub fn rolthai_item(state: &[u64], out: &mut [u64]) -> u32
     ensures { Tells state.now out.old out.new result (item_output (awaited_in (phase_in (runtime_in state.now)))) }
 {
     let lack = lack(state, out);
@@ -525,8 +504,7 @@ pub extern "C" fn rolthai_item(state: &[u64], out: &mut [u64]) -> u32
 }
 
 // What `Leased`, `Submitted` and `Refused` speak of, right after that answer.
-#[unsafe(no_mangle)]
-pub extern "C" fn rolthai_answered_lease(state: &[u64], out: &mut [u64]) -> u32
+pub fn rolthai_answered_lease(state: &[u64], out: &mut [u64]) -> u32
     ensures { SpeaksOf state.now out.old out.new result Answered.Leased }
 {
     let lack = lack(state, out);
@@ -536,8 +514,7 @@ pub extern "C" fn rolthai_answered_lease(state: &[u64], out: &mut [u64]) -> u32
     give(out, lease_words(35, 0, answered_lease(state)))
 }
 
-#[unsafe(no_mangle)]
-pub extern "C" fn rolthai_answered_receipt(state: &[u64], out: &mut [u64]) -> u32
+pub fn rolthai_answered_receipt(state: &[u64], out: &mut [u64]) -> u32
     ensures { SpeaksOf state.now out.old out.new result Answered.Submitted }
 {
     let lack = lack(state, out);
@@ -547,8 +524,7 @@ pub extern "C" fn rolthai_answered_receipt(state: &[u64], out: &mut [u64]) -> u3
     give(out, receipt_words(37, 0, answered_receipt(state)))
 }
 
-#[unsafe(no_mangle)]
-pub extern "C" fn rolthai_refusal(state: &[u64]) -> u32
+pub fn rolthai_refusal(state: &[u64]) -> u32
     ensures { Refusal state.now result }
 {
     let fault = fault(state);
@@ -582,71 +558,61 @@ fn read(state: &[u64], out: &mut [u64], kind: ReadingKind, argument: u64) -> u32
     tell(state, Taken::Read(kind), &words, out)
 }
 
-#[unsafe(no_mangle)]
-pub extern "C" fn rolthai_state(state: &[u64], out: &mut [u64]) -> u32
+pub fn rolthai_state(state: &[u64], out: &mut [u64]) -> u32
     ensures { ShowsOf state.now out.old out.new result ReadState }
 {
     read(state, out, ReadingKind::State, 0)
 }
 
-#[unsafe(no_mangle)]
-pub extern "C" fn rolthai_epoch(state: &[u64], out: &mut [u64]) -> u32
+pub fn rolthai_epoch(state: &[u64], out: &mut [u64]) -> u32
     ensures { ShowsOf state.now out.old out.new result ReadEpoch }
 {
     read(state, out, ReadingKind::Epoch, 0)
 }
 
-#[unsafe(no_mangle)]
-pub extern "C" fn rolthai_boot_id(state: &[u64], out: &mut [u64]) -> u32
+pub fn rolthai_boot_id(state: &[u64], out: &mut [u64]) -> u32
     ensures { ShowsOf state.now out.old out.new result ReadBootId }
 {
     read(state, out, ReadingKind::BootId, 0)
 }
 
-#[unsafe(no_mangle)]
-pub extern "C" fn rolthai_flags(state: &[u64], out: &mut [u64]) -> u32
+pub fn rolthai_flags(state: &[u64], out: &mut [u64]) -> u32
     ensures { ShowsOf state.now out.old out.new result ReadFlags }
 {
     read(state, out, ReadingKind::Flags, 0)
 }
 
-#[unsafe(no_mangle)]
-pub extern "C" fn rolthai_receipt_count(state: &[u64], out: &mut [u64]) -> u32
+pub fn rolthai_receipt_count(state: &[u64], out: &mut [u64]) -> u32
     ensures { ShowsOf state.now out.old out.new result ReadReceiptCount }
 {
     read(state, out, ReadingKind::ReceiptCount, 0)
 }
 
-#[unsafe(no_mangle)]
-pub extern "C" fn rolthai_config(state: &[u64], out: &mut [u64]) -> u32
+pub fn rolthai_config(state: &[u64], out: &mut [u64]) -> u32
     ensures { ShowsOf state.now out.old out.new result ReadConfig }
 {
     read(state, out, ReadingKind::Config, 0)
 }
 
-#[unsafe(no_mangle)]
-pub extern "C" fn rolthai_snapshot(state: &[u64], out: &mut [u64]) -> u32
+pub fn rolthai_snapshot(state: &[u64], out: &mut [u64]) -> u32
     ensures { ShowsOf state.now out.old out.new result ReadSnapshot }
 {
     read(state, out, ReadingKind::Snapshot, 0)
 }
 
-#[unsafe(no_mangle)]
-pub extern "C" fn rolthai_lease(state: &[u64], axis: u8, out: &mut [u64]) -> u32
+pub fn rolthai_lease(state: &[u64], axis: u8, out: &mut [u64]) -> u32
     ensures { ShowsOf state.now out.old out.new result (ReadLease axis) }
 {
     read(state, out, ReadingKind::Lease, axis as u64)
 }
 
-#[unsafe(no_mangle)]
-pub extern "C" fn rolthai_capability(state: &[u64], index: u64, out: &mut [u64]) -> u32
+pub fn rolthai_capability(state: &[u64], index: u64, out: &mut [u64]) -> u32
     ensures { ShowsOf state.now out.old out.new result (ReadCapability index) }
 {
     read(state, out, ReadingKind::CapabilityAt, index)
 }
 
-#[unsafe(no_mangle)]
-pub extern "C" fn rolthai_receipt(state: &[u64], index: u64, out: &mut [u64]) -> u32
+pub fn rolthai_receipt(state: &[u64], index: u64, out: &mut [u64]) -> u32
     ensures { ShowsOf state.now out.old out.new result (ReadReceipt index) }
 {
     read(state, out, ReadingKind::ReceiptAt, index)
@@ -676,8 +642,7 @@ fn taken(state: &mut [u64], words: &[u64]) -> Taken
 }
 
 // One record of docs/WIRE.md: 16 words in, 26 out.
-#[unsafe(no_mangle)]
-pub extern "C" fn rolthai_step(state: &mut [u64], words: &[u64], out: &mut [u64]) -> u32
+pub fn rolthai_step(state: &mut [u64], words: &[u64], out: &mut [u64]) -> u32
     ensures { Records state.old state.new words.now out.old out.new result }
 {
     let fault = fault_at(state, words, out);

@@ -1,0 +1,7 @@
+use borrow.Author.Rules.{rules}
+use Rattle.format.specs.Decode.{reading_of}
+use Rattle.host.proofs.rolthai_receipt.Goals as goal
+
+pub returns : goal.returns
+unfolding reading_of
+returns c = c.read.ensures
