@@ -1,6 +1,8 @@
 // Whole lives as bytes (docs/WIRE.md): input records in, an output record for each out. Promises: the bytes written are the encoding of the
 // definitions' answers to the decoded records, and nothing else of the output is altered; there is no condition on the bytes. Rests on
 // `host_records` for the records, over words of its own, and on `words` for the bytes.
+#![tactic(auto)]
+
 ghost use Rattle.std.specs.Prelude.{[], ◌≡◌, ◌+◌, ◌*◌, ◌≤◌, min, length};
 ghost use Rattle.words.specs.Words.{bytes_of, over};
 ghost use Rattle.format.specs.Encode.{padded};
@@ -46,8 +48,7 @@ pub fn answer_short(output: &mut [u8], at: usize)
 }
 
 // Runs lives. The answer is how many bytes were written.
-#[unsafe(no_mangle)]
-pub extern "C" fn rolthai_run(input: &[u8], output: &mut [u8]) -> usize
+pub fn rolthai_run(input: &[u8], output: &mut [u8]) -> usize
     ensures value { result ≡ length (written input.now (length output.old)) }
     ensures output_after { output.new ≡ over output.old 0 (written input.now (length output.old)) }
     ensures upper_bound { result ≤ length output.new }

@@ -13,7 +13,6 @@ use Rattle.state.specs.State.{Sound}
 use Rattle.state.specs.declared.Numbers.{Numbers}
 use Rattle.decide_start.specs.Starts.{is_started}
 use Rattle.decide_start.specs.declared.Stage.{Stage}
-use Rattle.decide_start.specs.declared.Stage.TheVariants as Stage
 use Rattle.runtime.specs.declared.Runtime.{Runtime}
 use Rattle.runtime.specs.Runtimes.{state_in}
 use Rattle.runtime.specs.Stages.{phase_in, SoundAt, RuntimeSound}

@@ -2,6 +2,8 @@
 // 64 bits can be held against the Rust (tools/wire). Word 1 says which counter (0 epoch, 1 next receipt, 2 next lease), word 2 its value; it is
 // answered 96, and sets nothing where there is no runtime: a start that goes on has all three at 1. Promises that the runtime stays sound, whatever
 // the counters are; not that its life is one of the rules'. Rests on `host_records`, over words of its own, and on `words`.
+#![tactic(auto)]
+
 ghost use Rattle.std.specs.Prelude.{◌*◌, ◌≤◌, length, ◌≡◌};
 ghost use Rattle.runtime.specs.Stages.{RuntimeSound};
 ghost use Rattle.layout.specs.Layout.{Long, runtime_in};
@@ -68,8 +70,7 @@ fn run_records(input: &[u8], output: &mut [u8], count: usize)
 }
 
 // As `rolthai_run`: the answer is how many bytes were written.
-#[unsafe(no_mangle)]
-pub extern "C" fn rolthai_test_run(input: &[u8], output: &mut [u8]) -> usize
+pub fn rolthai_test_run(input: &[u8], output: &mut [u8]) -> usize
     ensures { result ≤ length output.new }
 {
     let records = input.len() / 128;
