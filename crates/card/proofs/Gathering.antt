@@ -1,15 +1,15 @@
 -- One field is gathered: what the fields come to stays. Assumes nothing.
-use Prim.Native.Nat.{ℕ, ◌+◌, ◌/◌, ◌<◌, ◌≤◌}
+use Prim.Native.Nat.{ℕ, ◌+◌, ◌/◌, ◌<◌}
 use mathlib.Core.Bool.{true, false}
-use mathlib.Core.List.{List, []}
-use mathlib.Core.Option.{Option, none, some}
+use mathlib.Core.List.{List}
+use mathlib.Core.Option.{none, some}
 use mathlib.Core.Path.{◌≡◌, sym, ap, ◌∙◌}
 use native.Mathlib.Omega.{arith}
-use lib.ListN.{length, take, drop, get_or, set}
+use lib.ListN.{length, drop, get_or, set}
 use lib.Seq.{take_all}
 use Rattle.card.specs.Card.{widths, odd, field_in, fields_in}
 use Rattle.card.specs.declared.Gathered.{Gathered}
-use Rattle.card.specs.Functions.{prefixed, ZeroFrom, fields_after, or_zero}
+use Rattle.card.specs.Functions.{ZeroFrom, fields_after, or_zero}
 use Rattle.card.proofs.Reading.{prefixed-nil, fields-clear, fields-none, fields-set, bits_left, bytes_left, none_left}
 
 module _ (i : ℕ) (l : i < 22) (t : Gathered) (body : List ℕ) (e : length t.numbers ≡ 22) where

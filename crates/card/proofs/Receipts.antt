@@ -13,11 +13,8 @@ use lib.Seq.{drop-cons}
 use Rattle.model.specs.Decisions.{decision_number, decision_at}
 use Rattle.model.specs.Reasons.{number, reason_at}
 use Rattle.model.specs.declared.Decision.{Decision}
-use Rattle.model.specs.declared.Decision.TheVariants as Decision
 use Rattle.model.specs.declared.Numbered.{Numbered}
-use Rattle.model.specs.declared.Numbered.TheVariants as Numbered
 use Rattle.model.specs.declared.NumberedDecision.{NumberedDecision}
-use Rattle.model.specs.declared.NumberedDecision.TheVariants as NumberedDecision
 use Rattle.model.specs.declared.Reason.{Reason}
 use Rattle.model.specs.declared.Receipt.{Receipt}
 use Rattle.model.proofs.Decisions.{decision-number, number-decision}

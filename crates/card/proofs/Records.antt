@@ -85,9 +85,9 @@ entry-framed body rest =
     rw (append_assoc body end rest, le-leb (L + 3) (suc (length (body ++ xs))) l)
     (rw (take-append_seam body xs, drop-append_seam body xs, drop-append-add body xs 2, take_at end rest 2 two, drop_at end rest 2 two))
 
-is_framed : (body : List ℕ) → Bytes body → 4 ≤ length body → length body ≤ 126 → is_framed (length body) body (sum_bytes body) ≡ true
+framed-body : (body : List ℕ) → Bytes body → 4 ≤ length body → length body ≤ 126 → is_framed (length body) body (sum_bytes body) ≡ true
 unfolding is_framed
-is_framed body b low high =
+framed-body body b low high =
     let s = length body + sum body in
     let k : s < 256 ^ 2 = omega (arith, framed-sum body b high) in
     rw (le-leb 4 (length body) low, le-leb (length body) 126 high) (eq-eqb (little_number (little_end 2 s)) s (number-bytes 2 s k))
@@ -106,7 +106,7 @@ written-receipt : (r : Receipt) → Fits r → receipt_in (length (body_for r)) 
 unfolding receipt_in bind
 written-receipt r f =
     let ns = numbers_of r in
-    let framed = is_framed (body_for r) (body_bytes ns) (omega (arith, body-length ns)) (body-most ns) in
+    let framed = framed-body (body_for r) (body_bytes ns) (omega (arith, body-length ns)) (body-most ns) in
     rw (framed, body-fields ns (numbers_fit r f)) (receipt-back r f)
 
 pub written_read : (r : Receipt) (rest : List ℕ) → Fits r → entry_in (record_of r ++ rest) ≡ Accepts r rest

@@ -14,7 +14,6 @@ use Rattle.words.specs.Words.{words_at, little_end, bytes_of, over}
 use Rattle.words.proofs.Ends.{length-little_end, length-bytes_of}
 use Rattle.words.proofs.Over.{over-over}
 use Rattle.card.specs.declared.Entry.{Entry}
-use Rattle.card.specs.declared.Entry.TheVariants as Entry
 use Rattle.card.specs.declared.Held.{Held}
 use Rattle.card.specs.declared.Read.{Read}
 use Rattle.card.specs.Card.{widths, receipt_of, record_of, Found, Ends, Accepts, Refuses, entry_in}

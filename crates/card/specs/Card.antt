@@ -5,9 +5,7 @@ use Rattle.model.specs.Decisions.{decision_number, decision_at}
 use Rattle.model.specs.Reasons.{number, reason_at}
 use Rattle.model.specs.declared.Decision.{Decision}
 use Rattle.model.specs.declared.Numbered.{Numbered}
-use Rattle.model.specs.declared.Numbered.TheVariants as Numbered
 use Rattle.model.specs.declared.NumberedDecision.{NumberedDecision}
-use Rattle.model.specs.declared.NumberedDecision.TheVariants as NumberedDecision
 use Rattle.model.specs.declared.Reason.{Reason}
 use Rattle.model.specs.declared.Receipt.{Receipt}
 use Rattle.words.specs.Signs.{unsigned, signed}

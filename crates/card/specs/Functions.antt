@@ -5,7 +5,6 @@ use Rattle.model.specs.Records.{no_receipt}
 use Rattle.model.specs.declared.Receipt.{Receipt}
 use Rattle.words.specs.Words.{over}
 use Rattle.card.specs.declared.Entry.{Entry}
-use Rattle.card.specs.declared.Entry.TheVariants as Entry
 use Rattle.card.specs.declared.Fields.{Fields}
 use Rattle.card.specs.declared.Gathered.{Gathered}
 use Rattle.card.specs.declared.Held.{Held}

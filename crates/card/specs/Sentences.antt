@@ -1,10 +1,10 @@
 -- 02's sentences on card files (item 1), and what a host is told of them (docs/CARD.md), each from `CardClaim` alone: nothing is used here but that
 -- record and the definitions that it names, so that no part of it can be weakened unnoticed.
-use Prim.Native.Nat.{ℕ, zero, suc, ◌+◌, ◌^◌, ◌<◌, ◌≤◌}
-use Rattle.std.specs.Prelude.{Bool, true, false, cond, ◌⊎◌, ◌≢◌, ◌≡◌, refl, eqb, take, drop, get_or}
+use Prim.Native.Nat.{ℕ, ◌+◌, ◌<◌, ◌≤◌}
+use Rattle.std.specs.Prelude.{Bool, true, false, ◌⊎◌, ◌≢◌, ◌≡◌, refl, eqb, take, drop, get_or}
 use Rattle.std.proofs.lemmas.Bool.{false≢true}
 use mathlib.Core.List.{List, [], ◌∷◌, ◌++◌, map, append-nil}
-use Rattle.std.proofs.Common.{inl, inr, sym, ap, ◌∙◌, subst, take_all}
+use Rattle.std.proofs.Common.{inl, inr, sym, ap, ◌∙◌, take_all}
 use Rattle.std.proofs.Math.Option.{some}
 use native.Mathlib.Omega.{arith}
 use denote.Laws.{Is}
@@ -15,10 +15,10 @@ use mir.Val.{Val}
 use Rattle.model.specs.contracts.Receipt.{the_row}
 use Rattle.model.specs.declared.Receipt.{Receipt}
 use Rattle.words.specs.Words.{Bytes, little_end, little_number, bytes_of, over}
-use Rattle.card.specs.Card.{widths, numbers_of, body_of, sum, record_of, records_of, head, card_of, wrong_head, past_end, unsound, Found, Ends, Accepts, Refuses, entry_in, Contents, holding, has_head, read_card}
+use Rattle.card.specs.Card.{widths, numbers_of, body_of, sum, record_of, records_of, head, card_of, past_end, unsound, Found, Ends, Accepts, Refuses, entry_in, Contents, holding, has_head, read_card}
 use Rattle.card.specs.Functions.{has_room, written, count, read_at, read_all}
 use Rattle.card.specs.Wire.{wire_words, wire_receipt, wire_count, wire_written, Hosted, last_answer, last_place}
-use Rattle.card.specs.Claim.{Fits, AllFit, Holds, Sized, Reads, GoesOn, Refused, EndsPast, Broken, CardClaim}
+use Rattle.card.specs.Claim.{Fits, AllFit, Reads, CardClaim}
 use Rattle.card.specs.declared.Entry.TheVariants as Entry
 
 -- the receipt that was accepted, and a file's receipts

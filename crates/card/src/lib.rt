@@ -2,6 +2,8 @@
 // Promises, with no condition: what is written is a receipt's record, at its place and nothing else altered, or nothing at all; what is read is
 // what the definitions say of the bytes from a place on, and never a byte outside them.
 // Rests on `model` for the receipts, and on `words` for numbers in bytes.
+#![tactic(auto)]
+
 ghost use Rattle.std.specs.Prelude.{◌+◌, ◌%◌, ◌≤◌, ◌<◌, true, ◌≡◌, length, drop, get_or};
 ghost use Rattle.std.proofs.Math.Option.{none};
 ghost use Rattle.words.specs.Signs.{unsigned as unsigned_of};
@@ -14,7 +16,7 @@ use model::{Decision, Numbered, NumberedDecision, Reason, Receipt};
 use words::{number, put_number, signed, unsigned, word};
 
 // What stands at a place of a card: an accepted record, the end of the file, or a record that is refused with 122 or 123.
-#[derive(Drop)]
+#[derive(Clone, Copy)]
 pub enum Entry {
     Accepted,
     End,
@@ -22,7 +24,7 @@ pub enum Entry {
 }
 
 // What reading at a place finds: the receipt of an accepted record and the place after it; else the same place and a blank receipt.
-#[derive(Drop)]
+#[derive(Clone, Copy)]
 pub struct Read {
     pub entry: Entry,
     pub next: usize,
@@ -232,7 +234,7 @@ fn receipt_with(decision: Decision, reason: Reason, numbers: [u64; 22]) -> Recei
 }
 
 // A receipt, or none: then a blank one stands there.
-#[derive(Drop)]
+#[derive(Clone, Copy)]
 struct Held {
     sound: bool,
     receipt: Receipt,
@@ -268,7 +270,7 @@ fn receipt_of(numbers: [u64; 22]) -> Held
 // writing ----------------------------------------------------------------------------------------------------------------
 
 // The map of a receipt's numbers, and the length of its body.
-#[derive(Drop)]
+#[derive(Clone, Copy)]
 struct Plan {
     map: u64,
     length: usize,
@@ -378,7 +380,7 @@ pub fn put_record(card: &mut [u8], at: usize, r: Receipt) -> usize
 // reading ----------------------------------------------------------------------------------------------------------------
 
 // 22 numbers, or none: then zeros stand there.
-#[derive(Drop)]
+#[derive(Clone, Copy)]
 struct Fields {
     sound: bool,
     numbers: [u64; 22],
@@ -409,7 +411,7 @@ fn field_at(body: &[u8], at: usize, width: usize) -> u64
 }
 
 // How far the reading of the fields has come: the numbers so far, and the bits and the place of the fields to come.
-#[derive(Drop)]
+#[derive(Clone, Copy)]
 struct Gathered {
     sound: bool,
     rest: u64,
@@ -731,8 +733,7 @@ fn put_words(receipt: &mut [u8], words: [u64; 24])
     }
 }
 
-#[unsafe(no_mangle)]
-pub extern "C" fn rolthai_card_head(card: &mut [u8]) -> usize
+pub fn rolthai_card_head(card: &mut [u8]) -> usize
     ensures answer { result ≡ count_of card.old 0 head }
     ensures bytes { card.new ≡ written card.old 0 head }
 {
@@ -741,8 +742,7 @@ pub extern "C" fn rolthai_card_head(card: &mut [u8]) -> usize
 
 // The record of a receipt's 24 words (docs/WIRE.md), at the front of the card. 0, and nothing written: no room, not 192 bytes, a word above
 // its field, or a decision or reason without number.
-#[unsafe(no_mangle)]
-pub extern "C" fn rolthai_card_write(receipt: &[u8], card: &mut [u8]) -> usize
+pub fn rolthai_card_write(receipt: &[u8], card: &mut [u8]) -> usize
     ensures answer { result ≡ wire_count (wire_receipt receipt.now) card.old }
     ensures bytes { card.new ≡ wire_written (wire_receipt receipt.now) card.old }
 {
@@ -766,8 +766,7 @@ fn head_answer(card: &[u8]) -> u32
 
 // At a place below 4 the head: 0 or 121. From 4 on a record: 2 where the receipt has no room for 192 bytes; else 0, 1 at the end, 122, 123.
 // Only a record's 0 alters the receipt.
-#[unsafe(no_mangle)]
-pub extern "C" fn rolthai_card_read(card: &[u8], at: usize, receipt: &mut [u8]) -> u32
+pub fn rolthai_card_read(card: &[u8], at: usize, receipt: &mut [u8]) -> u32
     ensures answer { result ≡ wire_answer card.now at receipt.old }
     ensures bytes { receipt.new ≡ wire_read card.now at receipt.old }
 {

@@ -2,9 +2,12 @@
 // hexadecimal; spaces are passed over. Standard output has a line for each receipt that is read: its 24 words, and whether they are written again as
 // the same record. After those of a file come the answer that ended its reading, and the place. `stdin` and `stdout` are what
 // `tools/card/run vectors DIR` writes: the answers are those of the independent reader and writer of tools/card.
-ghost use Rattle.std.specs.Prelude.{ℕ, ◌+◌, ◌*◌, ◌%◌, ◌<◌, ◌≤◌, true, ◌≡◌, length, get_or};
+#![tactic(auto)]
 
-use libc::{STDIN_FILENO, STDOUT_FILENO};
+ghost use Rattle.std.specs.Prelude.{ℕ, ◌+◌, ◌*◌, ◌%◌, ◌<◌, ◌≤◌, true, ◌≡◌, length, get_or, IfOk};
+
+use std::io;
+use std::io::Read;
 
 // a file from its digits -------------------------------------------------------------------------------------------------
 
@@ -53,16 +56,17 @@ fn put_digit(card: &mut [u8], digits: usize, byte: u8) -> usize
 
 // what is read of it -----------------------------------------------------------------------------------------------------
 
-fn print_receipt(receipt: &[u8])
+fn print_receipt(rt: &HostRuntime, receipt: &[u8]) -> io::Result<()>
     requires { length receipt.now ≡ 192 }
 {
-    io::write_all(STDOUT_FILENO, b"receipt");
+    print!(rt; "receipt")?;
     let mut i = 0;
     while i < 24 {
-        io::write_all(STDOUT_FILENO, b" ");
-        io::print_decimal(STDOUT_FILENO, words::word(receipt, 8 * i));
+        let word = words::word(receipt, 8 * i);
+        print!(rt; " {word}")?;
         i += 1;
     }
+    Ok(())
 }
 
 // Whether bytes begin with others.
@@ -89,19 +93,16 @@ fn is_record(receipt: &[u8], bytes: &[u8]) -> bool {
     count == bytes.len() && begins(&record, bytes)
 }
 
-fn print_same(same: bool) {
+fn print_same(rt: &HostRuntime, same: bool) -> io::Result<()> {
     if same {
-        io::write_all(STDOUT_FILENO, b" same\n");
+        println!(rt; " same")
     } else {
-        io::write_all(STDOUT_FILENO, b" other\n");
+        println!(rt; " other")
     }
 }
 
-fn print_end(answer: u32, at: usize) {
-    io::print_decimal(STDOUT_FILENO, answer as u64);
-    io::write_all(STDOUT_FILENO, b" at ");
-    io::print_decimal(STDOUT_FILENO, at as u64);
-    io::write_all(STDOUT_FILENO, b"\n");
+fn print_end(rt: &HostRuntime, answer: u32, at: usize) -> io::Result<()> {
+    println!(rt; "{answer} at {at}")
 }
 
 // How many bytes a record with this length byte has.
@@ -113,35 +114,38 @@ fn size(length: u8) -> usize
 }
 
 // From place 4 on, until an answer is not 0.
-fn read_records(card: &[u8], receipt: &mut [u8])
+fn read_records(rt: &HostRuntime, card: &[u8], receipt: &mut [u8]) -> io::Result<()>
     requires { (length card.now ≤ 1024) × (length receipt.old ≡ 192) }
 {
     let mut at = 4;
     let mut answer = card::rolthai_card_read(card, at, receipt);
     while answer == 0 && at < card.len() {
         let next = at + size(card[at]);
-        print_receipt(receipt);
-        print_same(next <= card.len() && is_record(receipt, &card[at..next]));
+        print_receipt(rt, receipt)?;
+        print_same(
+            rt,
+            next <= card.len() && is_record(receipt, &card[at..next]),
+        )?;
         at = next;
         answer = card::rolthai_card_read(card, at, receipt);
     }
-    print_end(answer, at);
+    print_end(rt, answer, at)
 }
 
-fn read(card: &[u8])
+fn read(rt: &HostRuntime, card: &[u8]) -> io::Result<()>
     requires { length card.now ≤ 1024 }
 {
     let mut receipt = [0u8; 192];
     let head = card::rolthai_card_read(card, 0, &mut receipt);
     if head == 0 {
-        read_records(card, &mut receipt);
+        read_records(rt, card, &mut receipt)
     } else {
-        print_end(head, 0);
+        print_end(rt, head, 0)
     }
 }
 
 // Reads the file of each line.
-fn run(text: &[u8], card: &mut [u8])
+fn run(rt: &HostRuntime, text: &[u8], card: &mut [u8]) -> io::Result<()>
     requires { length card.old ≤ 1024 }
 {
     let mut digits = 0;
@@ -149,19 +153,35 @@ fn run(text: &[u8], card: &mut [u8])
     while i < text.len() {
         if text[i] == b'\n' {
             let size = digits / 2;
-            read(&card[..size]);
+            read(rt, &card[..size])?;
             digits = 0;
         } else {
             digits = put_digit(card, digits, text[i]);
         }
         i += 1;
     }
+    Ok(())
+}
+
+// Reads until there is no more room, or nothing more to read; how many bytes there are then.
+fn read_full<R: Read>(input: &mut R, buffer: &mut [u8]) -> io::Result<usize>
+    ensures { IfOk result (λ n. n ≤ length buffer.new) }
+{
+    let mut n = 0;
+    while n < buffer.len() {
+        let count = input.read(&mut buffer[n..])?;
+        if count == 0 {
+            return Ok(n);
+        }
+        n += count;
+    }
+    Ok(n)
 }
 
 // There is room for 16,384 bytes of text and 1,024 of a file: what is beyond is not read.
-fn main() {
+fn main(rt: HostRuntime) -> io::Result<()> {
     let mut input = [0u8; 16384];
     let mut card = [0u8; 1024];
-    let length = io::read_full(STDIN_FILENO, &mut input);
-    run(&input[..length], &mut card);
+    let length = read_full(&mut rt.stdin(), &mut input)?;
+    run(&rt, &input[..length], &mut card)
 }

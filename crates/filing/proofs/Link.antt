@@ -10,7 +10,7 @@ use base.Logic.{SProp, emp, sep}
 use base.Fml.{Lft}
 use types.Logic.{Logic}
 use contract.Monad.{Fun, fact}
-use denote.Ref.{Bor}
+use denote.Ref.{Bor, MutBor}
 use Rattle.model.specs.declared.Receipt.{Receipt}
 use Rattle.card.specs.Card.{record_of, head, has_head}
 use Rattle.card.specs.Functions.{written, count, read_at}
@@ -37,16 +37,16 @@ module _ {M : Type 1} {𝓤 : Ura M} (𝓛 : Logic 𝓤) (m : Memory → SProp �
   pub has-head-asks : (card : Bor (List ℕ)) → (f-has-head.clauses 𝓛 m run (κ, tt) (card, tt)).requires tt ≡ emp 𝓤
   has-head-asks card = refl
 
-  pub put-head-says : (card after : Bor (List ℕ)) (n : ℕ) → (f-put-head.clauses 𝓛 m run (κ, tt) (card, tt)).ensures tt n (after, tt) ≡ says n (count card.now 0 head) after.now (written card.now 0 head)
+  pub put-head-says : (card after : MutBor (List ℕ)) (n : ℕ) → (f-put-head.clauses 𝓛 m run (κ, tt) (card, tt)).ensures tt n (after, tt) ≡ says n (count card.now 0 head) after.now (written card.now 0 head)
   put-head-says card after n = refl
 
-  pub put-head-asks : (card : Bor (List ℕ)) → (f-put-head.clauses 𝓛 m run (κ, tt) (card, tt)).requires tt ≡ emp 𝓤
+  pub put-head-asks : (card : MutBor (List ℕ)) → (f-put-head.clauses 𝓛 m run (κ, tt) (card, tt)).requires tt ≡ emp 𝓤
   put-head-asks card = refl
 
-  pub put-record-says : (card after : Bor (List ℕ)) (at : ℕ) (r : Receipt) (n : ℕ) → (f-put-record.clauses 𝓛 m run (κ, tt) (card, (at, (r, tt)))).ensures tt n (after, (at, (r, tt))) ≡ says n (count card.now at (record_of r)) after.now (written card.now at (record_of r))
+  pub put-record-says : (card after : MutBor (List ℕ)) (at : ℕ) (r : Receipt) (n : ℕ) → (f-put-record.clauses 𝓛 m run (κ, tt) (card, (at, (r, tt)))).ensures tt n (after, (at, (r, tt))) ≡ says n (count card.now at (record_of r)) after.now (written card.now at (record_of r))
   put-record-says card after at r n = refl
 
-  pub put-record-asks : (card : Bor (List ℕ)) (at : ℕ) (r : Receipt) → (f-put-record.clauses 𝓛 m run (κ, tt) (card, (at, (r, tt)))).requires tt ≡ emp 𝓤
+  pub put-record-asks : (card : MutBor (List ℕ)) (at : ℕ) (r : Receipt) → (f-put-record.clauses 𝓛 m run (κ, tt) (card, (at, (r, tt)))).requires tt ≡ emp 𝓤
   put-record-asks card at r = refl
 
   pub read-at-says : (card : Bor (List ℕ)) (at : ℕ) (r : Read) → (f-read-at.clauses 𝓛 m run (κ, tt) (card, (at, tt))).ensures tt r (card, (at, tt)) ≡ fact 𝓤 (r ≡ read_at card.now at)
@@ -57,20 +57,20 @@ module _ {M : Type 1} {𝓤 : Ura M} (𝓛 : Logic 𝓤) (m : Memory → SProp �
 
   -- for hosts in other languages ----------------------------------------------------------------------------------------
 
-  pub card-head-says : (card after : Bor (List ℕ)) (n : ℕ) → (f-card-head.clauses 𝓛 m run (κ, tt) (card, tt)).ensures tt n (after, tt) ≡ says n (count card.now 0 head) after.now (written card.now 0 head)
+  pub card-head-says : (card after : MutBor (List ℕ)) (n : ℕ) → (f-card-head.clauses 𝓛 m run (κ, tt) (card, tt)).ensures tt n (after, tt) ≡ says n (count card.now 0 head) after.now (written card.now 0 head)
   card-head-says card after n = refl
 
-  pub card-head-asks : (card : Bor (List ℕ)) → (f-card-head.clauses 𝓛 m run (κ, tt) (card, tt)).requires tt ≡ emp 𝓤
+  pub card-head-asks : (card : MutBor (List ℕ)) → (f-card-head.clauses 𝓛 m run (κ, tt) (card, tt)).requires tt ≡ emp 𝓤
   card-head-asks card = refl
 
-  pub card-write-says : (receipt card after : Bor (List ℕ)) (n : ℕ) → (f-card-write.clauses 𝓛 m run (κ, (κ₁, tt)) (receipt, (card, tt))).ensures tt n (receipt, (after, tt)) ≡ says n (wire_count (wire_receipt receipt.now) card.now) after.now (wire_written (wire_receipt receipt.now) card.now)
+  pub card-write-says : (receipt : Bor (List ℕ)) (card after : MutBor (List ℕ)) (n : ℕ) → (f-card-write.clauses 𝓛 m run (κ, (κ₁, tt)) (receipt, (card, tt))).ensures tt n (receipt, (after, tt)) ≡ says n (wire_count (wire_receipt receipt.now) card.now) after.now (wire_written (wire_receipt receipt.now) card.now)
   card-write-says receipt card after n = refl
 
-  pub card-write-asks : (receipt card : Bor (List ℕ)) → (f-card-write.clauses 𝓛 m run (κ, (κ₁, tt)) (receipt, (card, tt))).requires tt ≡ emp 𝓤
+  pub card-write-asks : (receipt : Bor (List ℕ)) (card : MutBor (List ℕ)) → (f-card-write.clauses 𝓛 m run (κ, (κ₁, tt)) (receipt, (card, tt))).requires tt ≡ emp 𝓤
   card-write-asks receipt card = refl
 
-  pub card-read-says : (card receipt after : Bor (List ℕ)) (at n : ℕ) → (f-card-read.clauses 𝓛 m run (κ, (κ₁, tt)) (card, (at, (receipt, tt)))).ensures tt n (card, (at, (after, tt))) ≡ says n (wire_answer card.now at receipt.now) after.now (wire_read card.now at receipt.now)
+  pub card-read-says : (card : Bor (List ℕ)) (receipt after : MutBor (List ℕ)) (at n : ℕ) → (f-card-read.clauses 𝓛 m run (κ, (κ₁, tt)) (card, (at, (receipt, tt)))).ensures tt n (card, (at, (after, tt))) ≡ says n (wire_answer card.now at receipt.now) after.now (wire_read card.now at receipt.now)
   card-read-says card receipt after at n = refl
 
-  pub card-read-asks : (card receipt : Bor (List ℕ)) (at : ℕ) → (f-card-read.clauses 𝓛 m run (κ, (κ₁, tt)) (card, (at, (receipt, tt)))).requires tt ≡ emp 𝓤
+  pub card-read-asks : (card : Bor (List ℕ)) (receipt : MutBor (List ℕ)) (at : ℕ) → (f-card-read.clauses 𝓛 m run (κ, (κ₁, tt)) (card, (at, (receipt, tt)))).requires tt ≡ emp 𝓤
   card-read-asks card receipt at = refl

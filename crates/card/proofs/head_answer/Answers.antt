@@ -1,0 +1,11 @@
+use mathlib.Core.Path.{sym, ◌∙◌}
+use Rattle.card.specs.Wire.{head_answer}
+use Rattle.card.proofs.head_answer.Goals as goal
+
+pub returns-then-has_head : goal.returns-then-has_head
+unfolding head_answer
+returns-then-has_head c = rw (sym c.has_head.ensures ∙ c.if-has_head.true)
+
+pub returns : goal.returns
+unfolding head_answer
+returns c = rw (sym c.has_head.ensures ∙ c.if-has_head.false)

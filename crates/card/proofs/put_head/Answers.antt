@@ -1,0 +1,15 @@
+use borrow.Author.Rules.{rules}
+use mathlib.Core.Path.{◌∙◌}
+use Rattle.card.specs.Card.{head}
+use Rattle.card.proofs.Writing.{with-room, without-room}
+use Rattle.card.proofs.put_head.Goals as goal
+
+pub returns-then-card-lt4 : goal.returns-then-card-lt4
+unfolding head
+returns-then-card-lt4 c = let w = without-room c.args.card.now 0 head (search rules) in record { answer = w.0; bytes = w.1 }
+
+pub returns : goal.returns
+unfolding head
+returns c =
+    let a = c.args in
+    let w = with-room a.card.now 0 head (search rules) in record { answer = w.0; bytes = c.put.ensures ∙ w.1 }
