@@ -1,47 +1,73 @@
-"""Compiles programs that measure or show the proved sources, and are themselves not proved: the compiler's front end, without its proofs. Whether the
-sources are proved is what `rt ci` says."""
+"""The static libraries of crates/ as archives. Only a proved crate is built: `rt lib` proves what has changed before it, and what is built over the libraries
+that `rt ci` left is checked over them."""
 import os
+import re
 import shutil
 import subprocess
 import sys
 
 ROOT = os.path.dirname(os.path.dirname(os.path.abspath(__file__)))
-HOME = os.path.dirname(os.path.dirname(subprocess.run(['rt', 'doc'], capture_output=True, text=True, check=True).stdout.strip()))
-KIT = f'{HOME}/on/x86_64'
-CLANG = f'{KIT}/toolchain/bin/clang'
+KIT = os.path.dirname(subprocess.run(['rt', 'doc'], capture_output=True, text=True, check=True).stdout.strip())
+TOOLCHAIN = f'{KIT}/toolchain'
+CLANG = f'{TOOLCHAIN}/bin/clang'
 
 
 def run(command, folder):
-    done = subprocess.run(command, cwd=folder, capture_output=True, text=True)
+    """Runs a command, and ends this program with what it said where it fails."""
+    done = subprocess.run(command, cwd=folder, stdout=subprocess.PIPE, stderr=subprocess.STDOUT, text=True)
     if done.returncode != 0:
-        sys.exit(f'{command[0]}: {(done.stderr or done.stdout)[-2000:]}')
+        sys.exit(f'{" ".join(command[:2])}, in {os.path.relpath(folder, ROOT)}: {done.stdout[-2000:]}')
 
 
-def crates(name):
-    """A crate after all that it rests on."""
-    lines = dict(line.split(':', 1) for line in open(f'{ROOT}/crates.txt') if not line.startswith('#') and ':' in line)
-    order = []
+def listed():
+    """The crates of crates.txt: whether each is a static library, and what it rests on."""
+    rows = re.findall(r'^(\w+)( +staticlib)?:(.*)$', open(f'{ROOT}/crates.txt').read(), re.M)
+    return {name: (bool(kind), below.split()) for name, kind, below in rows}
 
-    def visit(at):
-        for below in lines[at].split():
-            visit(below)
-        if at not in order:
-            order.append(at)
-    visit(name)
+
+def crate_of(archive):
+    """The static library that an archive is of: NAME_c, or NAME where that is one itself."""
+    rows = listed()
+    for name in (f'{archive}_c', archive):
+        if rows.get(name, (False,))[0]:
+            return name
+    sys.exit(f'crates.txt has no static library {archive}_c or {archive}')
+
+
+def below(crate):
+    """What a crate rests on, of this repository, the lowest first."""
+    rows, order = listed(), []
+
+    def visit(name):
+        for dep in rows.get(name, (False, []))[1]:
+            if dep in rows and dep not in order:
+                visit(dep)
+                order.append(dep)
+    visit(crate)
     return order
 
 
-def copied(source, folder):
-    """A program's source as the compiler wants it named. It stands as .rt.txt in the repository, where `rt ci` lets nothing unproved stand as .rt."""
-    os.makedirs(folder, exist_ok=True)
-    target = f'{folder}/{os.path.basename(source).removesuffix(".txt")}'
-    shutil.copy(source, target)
-    return target
+def proved(crate):
+    """Proves and builds a static library as far as something has changed, with what it rests on."""
+    run(['rt', 'lib'], f'{ROOT}/crates/{crate}')
+    return f'{ROOT}/crates/{crate}/out/lib{crate}.a'
 
 
-def words(main, crate, more, toolchain=f'{KIT}/toolchain', expected=None):
-    """The command that compiles and runs a program over a crate: `more` are pairs of a further library and its source,
-    `expected` is the file that holds what it is to print."""
-    given = [f'{KIT}/bin/rattle-cases', '--toolchain', toolchain] + (['--stdout', expected] if expected else []) + [main, '--crate-name', 'program']
-    libs = [('std', f'{HOME}/libs/std/src/lib.rt')] + [(c, f'{ROOT}/crates/{c}/src/lib.rt') for c in crates(crate)] + more
-    return given + [word for name, source in libs for word in ('--lib', f'{name}={source}')]
+def built(crate, out, toolchain=TOOLCHAIN):
+    """Builds a static library over the libraries that stand in crates/*/out. They have to be those of the files as they are: right after `rt ci` or `rt lib`."""
+    own = listed()[crate][1]
+    words = [f'{KIT}/bin/rattle', 'build', '--crate-name', crate, 'src/lib.rt', '--crate-type', 'staticlib']
+    for name in ['std'] + own:
+        words += ['--extern', f'{name}={KIT}/rlibs/{name}.rlib' if name not in listed() else f'{name}={ROOT}/crates/{name}/out/rlib/{name}.rlib']
+    for folder in [f'{KIT}/rlibs'] + [f'{ROOT}/crates/{name}/out/rlib' for name in below(crate)]:
+        words += ['-L', f'dependency={folder}']
+    words += ['--antt-project', f'{KIT}/rattle/logic/antt-project.json', '--logic-built', f'{KIT}/logic_built']
+    run(words + ['--toolchain', toolchain, '-o', out], f'{ROOT}/crates/{crate}')
+
+
+def renewed(made, out):
+    """Puts a file at its place, and leaves one that is the same as it is, so that nothing is built over it again."""
+    os.makedirs(os.path.dirname(out), exist_ok=True)
+    same = os.path.exists(out) and open(out, 'rb').read() == open(made, 'rb').read()
+    if not same:
+        shutil.copyfile(made, out)

@@ -1,4 +1,4 @@
-/* The stage runtime for hosts in C (docs/HOST.md). Link target/staticlib/libhost.a (`rt staticlib host`), which is for
+/* The stage runtime for hosts in C (docs/HOST.md). Link target/staticlib/libhost.a (`tools/archives host`), which is for
    x86-64 only.
 
    The runtime's state lies in words that the host lends:
@@ -454,7 +454,7 @@ static inline int32_t rolthai_to_i32(uint64_t word) {
 
 /* whole lives as bytes --------------------------------------------------------------------------------------------------
 
-   Another archive, libwire.a (`rt staticlib wire`), for tests and replays (docs/WIRE.md): the same records, each word 8
+   Another archive, libwire.a (`tools/archives wire`), for tests and replays (docs/WIRE.md): the same records, each word 8
    bytes with the little end first. Nothing stays from one run to the next. */
 
 #define ROLTHAI_INPUT_BYTES 128u
@@ -490,7 +490,7 @@ static inline int32_t rolthai_get_i32(const uint8_t *record, size_t word) {
 
 /* receipts on a memory card ---------------------------------------------------------------------------------------------
 
-   Another archive, libcard.a (`rt staticlib card`), for the file of docs/CARD.md: a head, then a record for each receipt.
+   Another archive, libcard.a (`tools/archives card`), for the file of docs/CARD.md: a head, then a record for each receipt.
    A receipt is its 24 words, each 8 bytes with the little end first. Those of a record item are `out + 2`, so a host lends
    them as they are; that holds on little-endian hosts only, and others put each by rolthai_put:
 

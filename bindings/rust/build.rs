@@ -1,4 +1,4 @@
-//! Links the archive that `rt staticlib host` writes, and with the feature `card` that of `rt staticlib card`; STATICLIB_DIR
+//! Links the archive that `tools/archives host` writes, and with the feature `card` that of `tools/archives card`; STATICLIB_DIR
 //! names another folder.
 
 use std::env;
@@ -21,7 +21,7 @@ fn link(folder: &Path, name: &str) {
     println!("cargo::rerun-if-changed={}", archive.display());
     if !archive.exists() {
         let archive = archive.display();
-        println!("cargo::error=there is no {archive}: run `rt staticlib {name}`");
+        println!("cargo::error=there is no {archive}: run `tools/archives {name}`");
         return;
     }
     println!("cargo::rustc-link-lib=static={name}");

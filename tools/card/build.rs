@@ -1,4 +1,4 @@
-//! Links the archive that `rt staticlib card` writes; STATICLIB_DIR names another folder.
+//! Links the archive that `tools/archives card` writes; STATICLIB_DIR names another folder.
 
 use std::env;
 use std::path::{Path, PathBuf};
@@ -15,7 +15,7 @@ fn main() {
     println!("cargo::rerun-if-changed={}", archive.display());
     if !archive.exists() {
         let archive = archive.display();
-        println!("cargo::error=there is no {archive}: run `rt staticlib card`");
+        println!("cargo::error=there is no {archive}: run `tools/archives card`");
         return;
     }
     println!("cargo::rustc-link-search=native={}", folder.display());

@@ -1,6 +1,6 @@
-//! Links what is timed: the archives that `rt staticlib` writes of the ring's loop, of the functions over lent words and of
-//! those of the card, and the objects of tools/speed/object; the crate `wire` links its own. STATICLIB_DIR names another
-//! folder of archives.
+//! Links what is timed: the archives (tools/archives) of the ring's loop, of those over a lent runtime, of the functions over
+//! lent words and of those of the card, and the object of tools/speed/object; the crate `wire` links its own. STATICLIB_DIR
+//! names another folder of archives.
 
 use std::env;
 use std::path::{Path, PathBuf};
@@ -12,14 +12,12 @@ fn main() {
     let folder =
         env::var_os("STATICLIB_DIR").map_or_else(|| target.join("staticlib"), PathBuf::from);
     println!("cargo::rustc-link-search=native={}", folder.display());
-    for name in ["receipts_speed", "host", "card"] {
+    for name in ["receipts_speed", "lent_speed", "host", "card"] {
         let archive = folder.join(format!("lib{name}.a"));
         println!("cargo::rerun-if-changed={}", archive.display());
         println!("cargo::rustc-link-lib=static={name}");
     }
-    for name in ["laps", "apart"] {
-        let object = target.join(format!("speed/lent/{name}.o"));
-        println!("cargo::rerun-if-changed={}", object.display());
-        println!("cargo::rustc-link-arg={}", object.display());
-    }
+    let object = target.join("speed/lent/apart.o");
+    println!("cargo::rerun-if-changed={}", object.display());
+    println!("cargo::rustc-link-arg={}", object.display());
 }

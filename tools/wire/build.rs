@@ -1,4 +1,4 @@
-//! Links the archive that `rt staticlib wire` writes, or with `counters` that of `wire_counters`; with `host` that of
+//! Links the archive that `tools/archives wire` writes, or with `counters` that of `wire_counters`; with `host` that of
 //! `host` too.
 
 use std::env;
@@ -26,7 +26,7 @@ fn link(name: &str) {
     println!("cargo::rerun-if-changed={}", archive.display());
     if !archive.exists() {
         let archive = archive.display();
-        println!("cargo::error=there is no {archive}: run `rt staticlib {name}`");
+        println!("cargo::error=there is no {archive}: run `tools/archives {name}`");
         return;
     }
     println!("cargo::rustc-link-search=native={}", folder.display());

@@ -1,4 +1,4 @@
-//! Receipts on a memory card (docs/CARD.md), by the archive that `rt staticlib card` writes: the feature `card`.
+//! Receipts on a memory card (docs/CARD.md), by the archive that `tools/archives card` writes: the feature `card`.
 //!
 //! ```no_run
 //! # let file = [0; 4];

@@ -4,8 +4,8 @@
 use rolthai::{Decision, Reason, State};
 
 const SOURCES: [&str; 2] = [
-    include_str!("../../../crates/host/src/lib.rt"),
-    include_str!("../../../crates/card/src/lib.rt"),
+    include_str!("../../../crates/host_c/src/lib.rt"),
+    include_str!("../../../crates/card_c/src/lib.rt"),
 ];
 const SPEC: &str = include_str!("../../../crates/host/specs/Host.antt");
 const HEADER: &str = include_str!("../../c/rolthai.h");
@@ -184,7 +184,7 @@ fn upper(name: &str) -> String {
 #[test]
 fn the_header_has_the_answers_of_the_statement() {
     let answers = SPEC.lines().filter_map(|line| {
-        let (name, number) = line.strip_prefix("numberOf Answer.")?.split_once(" = ")?;
+        let (name, number) = line.strip_prefix("number_of Answer.")?.split_once(" = ")?;
         Some((upper(name), number))
     });
     let others = ["malformed", "short", "other"]

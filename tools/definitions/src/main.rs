@@ -38,7 +38,7 @@ fn main() -> ExitCode {
 fn run(options: &Options) -> io::Result<bool> {
     let root = options.root.canonicalize()?;
     let folder = Folder::new(options)?;
-    prover::prove_rules(&root)?;
+    prover::check_rules(&folder.path, &root)?;
     let mut facts = directed::facts(&root)?;
     facts.extend(lives::facts(options.seed, options.lives, options.calls));
     if options.plant {
@@ -46,7 +46,7 @@ fn run(options: &Options) -> io::Result<bool> {
     }
     write_lives(&folder.path, &facts)?;
     scratch::write(&folder.path, CRATE, &root, &scratch::modules(&facts))?;
-    let verdict = prover::check(&folder.path, CRATE, &root)?;
+    let verdict = prover::check(&folder.path, CRATE)?;
     let failed = failed(&facts, &verdict);
     show_failures(&failed, &verdict, &folder.path, &root)?;
     print!("{}", Counts::of(&facts));

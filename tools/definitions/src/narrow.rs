@@ -6,7 +6,7 @@ use crate::prover::{self, cut, Verdict};
 use crate::scratch::{book_term, column, computed, history, proved, write};
 use crate::text;
 use std::io;
-use std::path::{Path, PathBuf};
+use std::path::Path;
 
 /// Into how many parts the outputs are taken at each step.
 const PARTS: usize = 8;
@@ -14,17 +14,16 @@ const PARTS: usize = 8;
 /// A life that is looked into.
 pub struct Narrowing<'a> {
     fact: &'a Fact,
-    folder: PathBuf,
+    folder: &'a Path,
     root: &'a Path,
     steps: usize,
 }
 
 impl<'a> Narrowing<'a> {
-    /// Its crates stand below a folder of its own in this one.
-    pub fn new(fact: &'a Fact, folder: &Path, root: &'a Path) -> Self {
+    pub fn new(fact: &'a Fact, folder: &'a Path, root: &'a Path) -> Self {
         Self {
             fact,
-            folder: folder.join(format!("narrow{}", fact.label)),
+            folder,
             root,
             steps: 0,
         }
@@ -39,11 +38,13 @@ impl<'a> Narrowing<'a> {
     }
 
     fn check(&mut self, body: &str) -> io::Result<Verdict> {
-        let name = format!("step{}", self.steps);
+        // A crate's name has letters, digits and `_` alone.
+        let label = self.fact.label.replace('-', "_");
+        let name = format!("step{label}_{}", self.steps);
         self.steps += 1;
         let module = ("Parts".to_string(), history(self.fact) + body);
-        write(&self.folder, &name, self.root, &[module])?;
-        prover::check(&self.folder, &name, self.root)
+        write(self.folder, &name, self.root, &[module])?;
+        prover::check(self.folder, &name)
     }
 
     /// The place of the first output that differs; none if none does.
@@ -124,7 +125,7 @@ impl<'a> Narrowing<'a> {
     }
 
     fn part(&self, seen: &Seen, field: &str) -> String {
-        format!("part (λ b. b .{field}) ({})", self.whole(seen))
+        format!("part (λ b. b.{field}) ({})", self.whole(seen))
     }
 
     /// The lines, with what the prover says of this part alone.

@@ -19,7 +19,7 @@ pub fn opened(root: &Path) -> io::Result<Vec<String>> {
         let folder = root.join("crates").join(library).join("specs");
         let text = fs::read_to_string(folder.join(format!("{module}.antt")))?;
         let declared = unfoldable(&text).into_iter();
-        names.extend(declared.map(|name| format!("Rattle·{library}.specs.{module}.{name}")));
+        names.extend(declared.map(|name| format!("Rattle.{library}.specs.{module}.{name}")));
         for used in uses(&text) {
             if !modules.contains(&used) {
                 modules.push(used);
@@ -49,9 +49,7 @@ pub fn uses(text: &str) -> Vec<Module> {
 /// None for a library of the prover, and for what the prover makes of a crate's sources.
 fn module(used: &str) -> Option<Module> {
     CRATES.into_iter().find_map(|library| {
-        let from_outside = used.strip_prefix(&format!("Rattle·{library}.specs."));
-        let rest = from_outside
-            .or_else(|| used.strip_prefix(&format!("Rattle·{library}·specs.specs.")))?;
+        let rest = used.strip_prefix(&format!("Rattle.{library}.specs."))?;
         let name = rest.split(['.', ' ']).next()?;
         (name != "declared").then(|| (library, name.to_string()))
     })

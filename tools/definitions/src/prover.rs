@@ -1,5 +1,6 @@
 //! Runs the prover and reads what it says.
 
+use crate::scratch::crates;
 use std::fs;
 use std::io;
 use std::path::Path;
@@ -41,29 +42,35 @@ impl Verdict {
     }
 }
 
-/// Proves the crate of the rules, which the facts are about, and those that it rests on.
-pub fn prove_rules(root: &Path) -> io::Result<()> {
+/// Writes the scratch repository below the folder, with what the facts are about, and checks that: the definitions of the
+/// rules and those that they rest on, without functions and proofs.
+pub fn check_rules(folder: &Path, root: &Path) -> io::Result<()> {
+    let mut command = Command::new(root.join("tools/stripped"));
+    command.arg(folder.join("repository")).arg("rules");
+    succeeds(&mut command, "tools/stripped")?;
     let mut command = Command::new("rt");
-    command.args(["check", "rules"]).current_dir(root);
-    let run = output(&mut command)?;
+    command.arg("lib").current_dir(crates(folder).join("rules"));
+    succeeds(&mut command, "`rt lib` of the rules' definitions")
+}
+
+fn succeeds(command: &mut Command, what: &str) -> io::Result<()> {
+    let run = output(command)?;
     if run.status.success() {
         return Ok(());
     }
     let said = text(&run.stdout) + &text(&run.stderr);
     let lines: Vec<String> = said.lines().take(SHOWN).map(cut).collect();
-    let message = format!("`rt check rules` fails:\n{}", lines.join("\n"));
-    Err(io::Error::other(message))
+    Err(io::Error::other(format!(
+        "{what} fails:\n{}",
+        lines.join("\n")
+    )))
 }
 
 /// Checks the scratch crate of this name below the folder.
-pub fn check(folder: &Path, name: &str, root: &Path) -> io::Result<Verdict> {
-    let libraries = root.join("target/rlib");
-    let library = |n: &str| format!("{n}={}", libraries.join(format!("{n}.rlib")).display());
+pub fn check(folder: &Path, name: &str) -> io::Result<Verdict> {
     let began = Instant::now();
     let mut command = Command::new("rt");
-    command.arg("check").arg(folder.join(name));
-    command.args(["--extern", &library("rules"), "--extern", &library("model")]);
-    command.args(["-L", &format!("dependency={}", libraries.display())]);
+    command.arg("check").current_dir(crates(folder).join(name));
     let run = output(&mut command)?;
     let said = text(&run.stdout) + &text(&run.stderr);
     fs::write(folder.join(format!("{name}.out")), &said)?;
@@ -77,7 +84,12 @@ pub fn check(folder: &Path, name: &str, root: &Path) -> io::Result<Verdict> {
 
 fn output(command: &mut Command) -> io::Result<Output> {
     let run = command.output();
-    run.map_err(|e| io::Error::new(e.kind(), format!("cannot run `rt`: {e}")))
+    run.map_err(|e| {
+        io::Error::new(
+            e.kind(),
+            format!("cannot run {:?}: {e}", command.get_program()),
+        )
+    })
 }
 
 fn text(bytes: &[u8]) -> String {

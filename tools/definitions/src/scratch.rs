@@ -9,48 +9,42 @@ use oracle::runtime_core::profile::CAPABILITIES;
 use oracle::runtime_core::Config;
 use std::fs;
 use std::io;
-use std::path::Path;
+use std::path::{Path, PathBuf};
 
 /// How many facts a file has.
 const FACTS_IN_A_FILE: usize = 20;
 
 /// What a file of facts brings in besides the shared file.
 const USES: &str = "\
-use mathlib.Core.Bool.{true, false}
-use mathlib.Core.List.{List, [], _∷_, map}
-use mathlib.Core.Option.{Option, some, none}
-use mathlib.Core.Path.{_≡_, refl}
-use lib.IntN.{pos, negsuc}
-use lib.ListN.{take}
-use Rattle·model.specs.declared.Decision.the-variants as Decision
-use Rattle·model.specs.declared.ExecutionClass.the-variants as Class
-use Rattle·model.specs.declared.Reason.the-variants as Reason
-use Rattle·model.specs.declared.RuntimeState.the-variants as State
-use Rattle·model.specs.declared.Verification.the-variants as Verification
-use Rattle·rules.specs.With.{with_epoch, with_next_receipt, with_next_lease, with_invalid_count}
-use Rattle·rules.specs.Interaction.{Returned, Polled, Succeeded, Leased, Refused, Submitted}
-use Rattle·rules.specs.Protocol.{Tick, UpdateState, EmergencyStop, PollEstop, RecoverLocal, Acquire, Renew, Cancel, Submit}
-use Rattle·rules.specs.Protocol.{Observed, Executed, FellBack, Recorded}
-use Rattle·rules.specs.Protocol.{ReadState, ReadEpoch, ReadBootId, ReadFlags, ReadReceiptCount, ReadConfig, ReadSnapshot, ReadLease, ReadCapability, ReadReceipt}
-use Rattle·rules.specs.Protocol.{Calls, Replies, Reads, ItemObserve, ItemExecute, ItemFallback, ItemRecord}
-use Rattle·rules.specs.Protocol.{OfState, OfNumber, OfConfig, OfSnapshot, OfLease, OfCapability, OfReceipt}
-use Rattle·rules.specs.Protocol.{Output, Started, StartRefused, Hands, Answers, Reminds, Refuses, Shows, NoRuntime}
-use Rattle·rules.specs.Lives.{Life, outputs}
+use Rattle.std.specs.Prelude.{true, false, List, [], ◌∷◌, map, take, ◌≡◌, refl, pos, negsuc}
+use Rattle.std.proofs.Math.Option.{Option, some, none}
+use Rattle.model.specs.declared.Decision.TheVariants as Decision
+use Rattle.model.specs.declared.ExecutionClass.TheVariants as Class
+use Rattle.model.specs.declared.Reason.TheVariants as Reason
+use Rattle.model.specs.declared.RuntimeState.TheVariants as State
+use Rattle.model.specs.declared.Verification.TheVariants as Verification
+use Rattle.rules.specs.With.{with_epoch, with_next_receipt, with_next_lease, with_invalid_count}
+use Rattle.rules.specs.Interaction.{Returned, Polled, Succeeded, Leased, Refused, Submitted}
+use Rattle.rules.specs.Protocol.{Tick, UpdateState, EmergencyStop, PollEstop, RecoverLocal, Acquire, Renew, Cancel, Submit}
+use Rattle.rules.specs.Protocol.{Observed, Executed, FellBack, Recorded}
+use Rattle.rules.specs.Protocol.{ReadState, ReadEpoch, ReadBootId, ReadFlags, ReadReceiptCount, ReadConfig, ReadSnapshot, ReadLease, ReadCapability, ReadReceipt}
+use Rattle.rules.specs.Protocol.{Calls, Replies, Reads, ItemObserve, ItemExecute, ItemFallback, ItemRecord}
+use Rattle.rules.specs.Protocol.{OfState, OfNumber, OfConfig, OfSnapshot, OfLease, OfCapability, OfReceipt}
+use Rattle.rules.specs.Protocol.{Output, Started, StartRefused, Hands, Answers, Reminds, Refuses, Shows, NoRuntime}
+use Rattle.rules.specs.Lives.{Life, outputs}
 ";
 
 const SHARED_USES: &str = "\
 -- What the facts share.
-use Prim.Native.Nat.{ℕ, zero, suc}
-use mathlib.Core.List.{List, [], _∷_, _++_}
-use mathlib.Core.Option.{Option, some, none}
-use lib.IntN.{pos, negsuc}
-use Rattle·model.specs.declared.Capability.{Capability}
-use Rattle·model.specs.declared.Config.{Config}
-use Rattle·model.specs.declared.ExecutionClass.the-variants as Class
-use Rattle·model.specs.declared.Verification.the-variants as Verification
-use Rattle·rules.specs.Book.{Book}
-use Rattle·rules.specs.Protocol.{Input, Output, Phase, Starting, Gone, Idle, Waiting, book_in, start, react}
-use Rattle·rules.specs.Lives.{Life, outputs, outputs_from, endOf, phase_from}
+use Rattle.std.specs.Prelude.{ℕ, zero, suc, List, [], ◌∷◌, ◌++◌, pos, negsuc}
+use Rattle.std.proofs.Math.Option.{Option, some, none}
+use Rattle.model.specs.declared.Capability.{Capability}
+use Rattle.model.specs.declared.Config.{Config}
+use Rattle.model.specs.declared.ExecutionClass.TheVariants as Class
+use Rattle.model.specs.declared.Verification.TheVariants as Verification
+use Rattle.rules.specs.Book.{Book}
+use Rattle.rules.specs.Protocol.{Input, Output, Phase, Starting, Gone, Idle, Waiting, book_in, start, react}
+use Rattle.rules.specs.Lives.{Life, outputs, outputs_from, end_of, phase_from}
 ";
 
 const SHARED: &str = "
@@ -60,40 +54,40 @@ pub record Segment : Type 0 where
   pub inputs : List Input
 
 -- the book of a runtime that awaits no reply, changed
-unfoldable pub onIdle : (Book → Book) → Phase → Phase
-onIdle f (Starting s axis rest good) = Starting s axis rest good
-onIdle f Gone = Gone
-onIdle f (Idle b) = Idle (f b)
-onIdle f (Waiting w) = Waiting w
+unfoldable pub on_idle : (Book → Book) → Phase → Phase
+on_idle f (Starting s axis rest good) = Starting s axis rest good
+on_idle f Gone = Gone
+on_idle f (Idle b) = Idle (f b)
+on_idle f (Waiting w) = Waiting w
 
-unfoldable pub outputsAfter : Phase → List Segment → List Output
-outputsAfter p [] = []
-outputsAfter p (s ∷ rest) =
-    outputs_from (onIdle (s .set) p) (s .inputs) ++ outputsAfter (phase_from (onIdle (s .set) p) (s .inputs)) rest
+unfoldable pub outputs_after : Phase → List Segment → List Output
+outputs_after p [] = []
+outputs_after p (s ∷ rest) =
+    outputs_from (on_idle s.set p) s.inputs ++ outputs_after (phase_from (on_idle s.set p) s.inputs) rest
 
 -- the outputs of a life in which counters are set
-unfoldable pub outputsSet : Life → List Segment → List Output
-outputsSet l rest = outputs l ++ outputsAfter (endOf l) rest
+unfoldable pub outputs_set : Life → List Segment → List Output
+outputs_set l rest = outputs l ++ outputs_after (end_of l) rest
 
 -- where the runtime stands after the start and after each input
-unfoldable pub phasesFrom : Phase → List Input → List Phase
-phasesFrom p [] = []
-phasesFrom p (i ∷ is) = react p i .phase ∷ phasesFrom (react p i .phase) is
+unfoldable pub phases_from : Phase → List Input → List Phase
+phases_from p [] = []
+phases_from p (i ∷ is) = (react p i).phase ∷ phases_from (react p i).phase is
 
-unfoldable pub phasesAfter : Phase → List Segment → List Phase
-phasesAfter p [] = []
-phasesAfter p (s ∷ rest) =
-    phasesFrom (onIdle (s .set) p) (s .inputs) ++ phasesAfter (phase_from (onIdle (s .set) p) (s .inputs)) rest
+unfoldable pub phases_after : Phase → List Segment → List Phase
+phases_after p [] = []
+phases_after p (s ∷ rest) =
+    phases_from (on_idle s.set p) s.inputs ++ phases_after (phase_from (on_idle s.set p) s.inputs) rest
 
 unfoldable pub phases : Life → List Segment → List Phase
 phases l rest =
-    start (l .start) .phase ∷ (phasesFrom (start (l .start) .phase) (l .inputs) ++ phasesAfter (endOf l) rest)
+    (start l.start).phase ∷ (phases_from (start l.start).phase l.inputs ++ phases_after (end_of l) rest)
 
 -- the book at a place of these
-unfoldable pub bookAt : List Phase → ℕ → Option Book
-bookAt [] n = none
-bookAt (p ∷ ps) zero = book_in p
-bookAt (p ∷ ps) (suc n) = bookAt ps n
+unfoldable pub book_at : List Phase → ℕ → Option Book
+book_at [] n = none
+book_at (p ∷ ps) zero = book_in p
+book_at (p ∷ ps) (suc n) = book_at ps n
 
 -- parts of it, for a life that is looked into
 unfoldable pub nth : ℕ → List Output → Option Output
@@ -109,29 +103,38 @@ part f (some b) = some (f b)
 
 /// The definitions of the shared file that don't open by themselves.
 const SHARED_OPENED: &str =
-    "onIdle outputsAfter outputsSet phasesFrom phasesAfter phases bookAt nth part";
+    "on_idle outputs_after outputs_set phases_from phases_after phases book_at nth part";
 
 /// What a file of facts takes from the shared file.
-const SHARED_NAMES: &str = "rules, Segment, outputsSet, phases, bookAt, nth, part";
+const SHARED_NAMES: &str = "rules, Segment, outputs_set, phases, book_at, nth, part";
 
-/// Writes a crate with this name below the folder. Each module is a name and what stands in it.
+/// Where the scratch crates stand below the folder, beside those that they are about.
+pub fn crates(folder: &Path) -> PathBuf {
+    folder.join("repository/crates")
+}
+
+/// Writes a crate with this name. Each module is a name and what stands in it.
 pub fn write(
     folder: &Path,
     name: &str,
     root: &Path,
     modules: &[(String, String)],
 ) -> io::Result<()> {
-    let folder = folder.join(name);
+    let list = folder.join("repository/crates.txt");
+    let rows = fs::read_to_string(&list)?;
+    fs::write(list, format!("{rows}{name}: rules model\n"))?;
+    let folder = crates(folder).join(name);
     let specs = folder.join("specs");
     fs::create_dir_all(folder.join("src"))?;
     fs::create_dir(&specs)?;
-    fs::write(folder.join("src/lib.rt"), "// The facts are in specs/.\n")?;
+    let root_file = "// The facts are in specs/.\n#![tactic(auto)]\n";
+    fs::write(folder.join("src/lib.rt"), root_file)?;
     fs::write(specs.join("Shared.antt"), shared(root)?)?;
     let mut lib = String::from("pub mod Shared\n");
     for (module, body) in modules {
         lib += &format!("pub mod {module}\n");
         let uses = format!(
-            "{USES}use Rattle·{name}·specs.specs.Shared.{{{SHARED_NAMES}, {}, {}}}\n\n",
+            "{USES}use Rattle.{name}.specs.Shared.{{{SHARED_NAMES}, {}, {}}}\n\n",
             text::DEFAULT_CONFIG,
             text::PROFILE,
         );
@@ -203,12 +206,12 @@ pub fn computed(fact: &Fact) -> [String; 2] {
     if fact.script.rest.is_empty() {
         return [
             format!("outputs history{label}"),
-            format!("bookAt (phases history{label} [])"),
+            format!("book_at (phases history{label} [])"),
         ];
     }
     [
-        format!("outputsSet history{label} rest{label}"),
-        format!("bookAt (phases history{label} rest{label})"),
+        format!("outputs_set history{label} rest{label}"),
+        format!("book_at (phases history{label} rest{label})"),
     ]
 }
 

@@ -45,15 +45,8 @@ fn argument(term: String) -> String {
     }
 }
 
-/// A record; a name with `_` in it is written escaped.
 pub fn record<const N: usize>(fields: [(&str, String); N]) -> String {
-    let fields = fields.map(|(name, value)| {
-        if name.contains('_') {
-            format!("«{name}» = {value}")
-        } else {
-            format!("{name} = {value}")
-        }
-    });
+    let fields = fields.map(|(name, value)| format!("{name} = {value}"));
     format!("record {{ {} }}", fields.join("; "))
 }
 

@@ -39,11 +39,11 @@ fn bad_arguments() {
 
 const SPECS: &str = "\
 -- A comment.
-use Prim.Native.Nat.{ℕ}
-use Rattle·model.specs.declared.Config.{Config}
-use Rattle·model.specs.Words.{inside}
-use Rattle·rules·specs.specs.Book.{Book}
-use Rattle·model.specs.Reasons as Reasons
+use Rattle.std.specs.Prelude.{ℕ}
+use Rattle.model.specs.declared.Config.{Config}
+use Rattle.model.specs.Words.{inside}
+use Rattle.rules.specs.Book.{Book}
+use Rattle.model.specs.Reasons as Reasons
 
 unfoldable pub one : ℕ
 one = 1

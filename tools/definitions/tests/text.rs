@@ -52,13 +52,13 @@ const RECEIPT: Receipt = Receipt {
     observed_valid: false,
 };
 
-const RECEIPT_TERM: &str = "record { «boot_id» = 42; principal = 7; «safety_flags» = 4294967295; \
-«receipt_id» = 18446744073709551615; «action_id» = 1; sequence = 2; capability = 65535; \
-resource = 255; «lease_id» = 3; decision = Decision.Rejected; reason = Reason.Duplicate; \
-epoch = 4; «received_at» = 5; «admitted_at» = 6; «executed_at» = 0; \
+const RECEIPT_TERM: &str = "record { boot_id = 42; principal = 7; safety_flags = 4294967295; \
+receipt_id = 18446744073709551615; action_id = 1; sequence = 2; capability = 65535; \
+resource = 255; lease_id = 3; decision = Decision.Rejected; reason = Reason.Duplicate; \
+epoch = 4; received_at = 5; admitted_at = 6; executed_at = 0; \
 requested = negsuc 2147483647 ∷ pos 2147483647 ∷ []; observed = negsuc 0 ∷ pos 0 ∷ []; \
-«pre_state» = 8; «post_state» = 9; «original_receipt» = 10; dispatched = true; \
-«observed_valid» = false }";
+pre_state = 8; post_state = 9; original_receipt = 10; dispatched = true; \
+observed_valid = false }";
 
 #[test]
 fn a_receipt_has_all_its_fields() {
@@ -93,8 +93,8 @@ fn the_default_configuration_has_a_name() {
     assert_eq!(config(config_fields(&other)), DEFAULT_CONFIG);
     other.estop_mask = u32::MAX;
     let term = config(config_fields(&other));
-    assert!(term.starts_with("record { «watchdog_ms» = 50;"), "{term}");
-    assert!(term.ends_with("«estop_mask» = 4294967295 }"), "{term}");
+    assert!(term.starts_with("record { watchdog_ms = 50;"), "{term}");
+    assert!(term.ends_with("estop_mask = 4294967295 }"), "{term}");
 }
 
 #[test]

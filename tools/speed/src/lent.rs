@@ -1,5 +1,5 @@
 //! The same operations over one lent runtime, and two more: the proved calls of `runtime`, in the
-//! loops of laps.rt.txt, beside the Rust's. Each loop is timed as the compiler makes it, and with every
+//! loops of crates/lent_speed, beside the Rust's. Each loop is timed as the compiler makes it, and with every
 //! call kept out of line, as a host in another language meets it. The time of a loop is that of all
 //! its laps less that of the first ones, so that the making of the runtime does not count.
 

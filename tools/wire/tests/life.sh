@@ -1,6 +1,6 @@
 #!/usr/bin/env bash
 # Compiles life.c without a warning, links it with the proved code and compares what it prints with life.txt. The archive
-# is that of `rt staticlib wire`, or stands in the folder STATICLIB_DIR. The last line is '1 passed, 0 failed'.
+# is that of `tools/archives wire`, or stands in the folder STATICLIB_DIR. The last line is '1 passed, 0 failed'.
 set -u
 here=$(cd "$(dirname "${BASH_SOURCE[0]}")" && pwd)
 archive=${STATICLIB_DIR:-$here/../../../target/staticlib}/libwire.a
