@@ -5,42 +5,24 @@
 ghost use Rattle.std.specs.Prelude.{◌≡◌, ◌+◌, ◌≤◌, length};
 ghost use Rattle.cells.specs.Cells.{part, put};
 
-// No state has 65536 words.
+// Word by word: `copy_from_slice` compiles to two copies behind a test, with the words on the stack (seen in the machine code).
 pub fn write(state: &mut [u64], at: usize, words: &[u64])
-    requires { (at + length words.now ≤ length state.old) × (at + length words.now ≤ 65536) }
+    requires { at + length words.now ≤ length state.old }
     ensures { state.new ≡ put state.old at words.now }
 {
-    let mut i: usize = 0;
-    while i < words.len() {
+    for i in 0..words.len() {
         state[at + i] = words[i];
-        i = i + 1;
     }
 }
 
-// A window wide enough for every row but a receipt's.
-pub fn read16(state: &[u64], at: usize) -> [u64; 16]
-    requires { at + 16 ≤ length state.now }
-    ensures { result ≡ part state.now at 16 }
+// A window, as wide as the words that are wanted.
+pub fn read<const N: usize>(state: &[u64], at: usize) -> [u64; N]
+    requires { at + N ≤ length state.now }
+    ensures { result ≡ part state.now at N }
 {
-    let mut words = [0u64; 16];
-    let mut i: usize = 0;
-    while i < 16 {
+    let mut words = [0; N];
+    for i in 0..N {
         words[i] = state[at + i];
-        i = i + 1;
-    }
-    words
-}
-
-// .. and for a receipt's.
-pub fn read24(state: &[u64], at: usize) -> [u64; 24]
-    requires { at + 24 ≤ length state.now }
-    ensures { result ≡ part state.now at 24 }
-{
-    let mut words = [0u64; 24];
-    let mut i: usize = 0;
-    while i < 24 {
-        words[i] = state[at + i];
-        i = i + 1;
     }
     words
 }

@@ -14,7 +14,7 @@ ghost use Rattle.layout.specs.Layout.{Long, runtime_in};
 ghost use Rattle.host_records.specs.Standings.{Takes};
 ghost use Rattle.host.specs.Host.{fault_of, lack_of, fault_at, number_of, record_with, is_known, are_read, are_asked, asked, renewal_with, observed_with, reading_with, ListsAll, Asks, Begins, Wipes, Writes, TellsOf, Tells, ShowsOf, SpeaksOf, item_output, shown_output, Refusal, Records};
 
-use cells::{read16, write};
+use cells::write;
 use decide_read::{ItemKind, ItemShown};
 use decide_reply::Observed;
 use format::{
@@ -542,7 +542,7 @@ fn tell(state: &[u64], taken: Taken, words: &[u64], out: &mut [u64]) -> u32
     requires { Long state.now × (16 ≤ length words.now) × (26 ≤ length out.old) }
     ensures { TellsOf state.now taken (part words.now 0 16) out.old out.new result }
 {
-    give(out, taken_words(state, taken, read16(words, 0)))
+    give(out, taken_words(state, taken, cells::read(words, 0)))
 }
 
 // readings ---------------------------------------------------------------------------------------------------------------
@@ -638,7 +638,7 @@ fn taken(state: &mut [u64], words: &[u64]) -> Taken
     requires { Long state.old × (16 ≤ length words.now) }
     ensures { Takes state.old state.new result (part words.now 0 16) (decode (part words.now 0 16)) }
 {
-    take(state, read16(words, 0))
+    take(state, cells::read(words, 0))
 }
 
 // One record of docs/WIRE.md: 16 words in, 26 out.

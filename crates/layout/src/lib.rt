@@ -11,7 +11,7 @@ ghost use Rattle.state.specs.State.{InBounds};
 ghost use Rattle.layout.specs.Fields.{with_starting, with_waiting, with_numbers, with_cursor, with_slot, with_axis, with_why, with_falling, with_revoked, with_carrying, with_pending, with_fixed, with_index, with_rejected, with_others, with_leases, with_active, with_capabilities, with_replay, with_submission, with_request, with_renewal, with_submitted, with_slots, receipts_to};
 ghost use Rattle.layout.specs.Layout.{Long, runtime_in, listing_in, Becomes, Lists};
 
-use cells::{read16, read24, write};
+use cells::{read, write};
 use decide_start::Starting;
 use format::{as_u8, capability_of, reason_number, renewal_of, request_of, submission_of};
 use model::{
@@ -34,91 +34,91 @@ pub fn waiting_in(state: &[u64]) -> Waiting
     requires { Long state.now }
     ensures { result ≡ (runtime_in state.now).waiting }
 {
-    waiting_of(read16(state, 1))
+    waiting_of(read(state, 1))
 }
 
 pub fn numbers_in(state: &[u64]) -> Numbers
     requires { Long state.now }
     ensures { result ≡ (runtime_in state.now).numbers }
 {
-    numbers_of(read16(state, 3))
+    numbers_of(read(state, 3))
 }
 
 pub fn falling_in(state: &[u64]) -> Falling
     requires { Long state.now }
     ensures { result ≡ (runtime_in state.now).falling }
 {
-    falling_of(read16(state, 18))
+    falling_of(read(state, 18))
 }
 
 pub fn revoked_in(state: &[u64]) -> Revoked
     requires { Long state.now }
     ensures { result ≡ (runtime_in state.now).revoked }
 {
-    revoked_of(read16(state, 25))
+    revoked_of(read(state, 25))
 }
 
 pub fn carrying_in(state: &[u64]) -> Carrying
     requires { Long state.now }
     ensures { result ≡ (runtime_in state.now).carrying }
 {
-    carrying_of(read16(state, 28))
+    carrying_of(read(state, 28))
 }
 
 pub fn pending_in(state: &[u64]) -> Pending
     requires { Long state.now }
     ensures { result ≡ (runtime_in state.now).pending }
 {
-    pending_of(read16(state, 31))
+    pending_of(read(state, 31))
 }
 
 pub fn starting_in(state: &[u64]) -> Starting
     requires { Long state.now }
     ensures { result ≡ (runtime_in state.now).starting }
 {
-    starting_of(read16(state, 36))
+    starting_of(read(state, 36))
 }
 
 pub fn fixed_in(state: &[u64]) -> Fixed
     requires { Long state.now }
     ensures { result ≡ (runtime_in state.now).fixed }
 {
-    fixed_of(read16(state, 38))
+    fixed_of(read(state, 38))
 }
 
 pub fn index_in(state: &[u64]) -> Index
     requires { Long state.now }
     ensures { result ≡ (runtime_in state.now).places.index }
 {
-    index_of(read16(state, 54))
+    index_of(read(state, 54))
 }
 
 pub fn submission_in(state: &[u64]) -> Submission
     requires { Long state.now }
     ensures { result ≡ (runtime_in state.now).submission }
 {
-    submission_of(read16(state, 802))
+    submission_of(read(state, 802))
 }
 
 pub fn request_in(state: &[u64]) -> LeaseRequest
     requires { Long state.now }
     ensures { result ≡ (runtime_in state.now).request }
 {
-    request_of(read16(state, 818))
+    request_of(read(state, 818))
 }
 
 pub fn renewal_in(state: &[u64]) -> Renewal
     requires { Long state.now }
     ensures { result ≡ (runtime_in state.now).renewal }
 {
-    renewal_of(read16(state, 828))
+    renewal_of(read(state, 828))
 }
 
 pub fn submitted_in(state: &[u64]) -> Receipt
     requires { Long state.now }
     ensures { result ≡ (runtime_in state.now).submitted }
 {
-    receipt_of(read24(state, 834))
+    receipt_of(read(state, 834))
 }
 
 pub fn cursor_in(state: &[u64]) -> usize
@@ -153,35 +153,35 @@ pub fn lease_at(state: &[u64], at: usize) -> LeaseSlot
     requires { Long state.now × (at < 9) }
     ensures { result ≡ get_or (runtime_in state.now).leases at no_lease }
 {
-    lease_slot_of(read16(state, 189 + at * 12))
+    lease_slot_of(read(state, 189 + at * 12))
 }
 
 pub fn active_at(state: &[u64], at: usize) -> ActiveSlot
     requires { Long state.now × (at < 9) }
     ensures { result ≡ get_or (runtime_in state.now).active at no_active }
 {
-    active_slot_of(read16(state, 297 + at * 15))
+    active_slot_of(read(state, 297 + at * 15))
 }
 
 pub fn capability_at(state: &[u64], at: usize) -> Capability
     requires { Long state.now × (at < 17) }
     ensures { result ≡ get_or (runtime_in state.now).capabilities at no_capability }
 {
-    capability_of(read16(state, 432 + at * 14))
+    capability_of(read(state, 432 + at * 14))
 }
 
 pub fn entry_at(state: &[u64], at: usize) -> ReplaySlot
     requires { Long state.now × (at < 33) }
     ensures { result ≡ get_or (runtime_in state.now).replay at no_replay }
 {
-    replay_slot_of(read16(state, 670 + at * 4))
+    replay_slot_of(read(state, 670 + at * 4))
 }
 
 pub fn receipt_at(state: &[u64], at: usize) -> Receipt
     requires { Long state.now × (at < 65) }
     ensures { result ≡ get_or (runtime_in state.now).slots at no_receipt }
 {
-    receipt_of(read24(state, 855 + at * 21))
+    receipt_of(read(state, 855 + at * 21))
 }
 
 pub fn rejected_at(state: &[u64], at: usize) -> u8
@@ -415,7 +415,7 @@ pub fn keep_receipt(state: &mut [u64], at: usize)
     requires { Long state.old × (at < 65) }
     ensures { Becomes state.old state.new (with_submitted (get_or (runtime_in state.old).slots at no_receipt) (runtime_in state.old)) }
 {
-    let words = read24(state, 855 + at * 21);
+    let words = read(state, 855 + at * 21);
     put_submitted(state, receipt_of(words));
 }
 
@@ -433,7 +433,7 @@ pub fn listed_at(state: &[u64], at: usize) -> Capability
     requires { Long state.now × (at < 17) }
     ensures { result ≡ get_or (listing_in state.now).records at no_capability }
 {
-    capability_of(read16(state, 2221 + at * 14))
+    capability_of(read(state, 2221 + at * 14))
 }
 
 pub fn put_listed(state: &mut [u64], at: usize, capability: Capability)

@@ -1,10 +1,8 @@
-use Prim.Native.Nat.{◌-◌}
-use lib.ListN.{length}
-use Rattle.cells.proofs.Copies.{Written}
+use mathlib.Core.Path.{◌≡◌}
+use lib.ListN.{take}
+use Rattle.cells.specs.Cells.{put}
 use Rattle.cells.proofs.write.Given as goal
 
+-- the words passed are stored
 abbrev pub invariant-loop-i : goal.invariant-loop-i
-invariant-loop-i l = Written l.initial.state l.at l.words l.state l.i
-
-abbrev pub decreases-loop-i : goal.decreases-loop-i
-decreases-loop-i l = length l.words - l.i
+invariant-loop-i l = l.state ≡ put l.initial.state l.at (take l.i l.words)

@@ -3,4 +3,4 @@ use borrow.Author.Rules.{rules}
 use Rattle.host.proofs.taken.Goals as goal
 
 pub returns : goal.returns
-returns c = taken-so c.read16.ensures c.take.ensures
+returns c = taken-so c.read.ensures c.take.ensures

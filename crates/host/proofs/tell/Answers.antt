@@ -3,4 +3,4 @@ use borrow.Author.Rules.{rules}
 use Rattle.host.proofs.tell.Goals as goal
 
 pub returns : goal.returns
-returns c = told_of c.read16.ensures c.give.ensures c.taken_words.ensures
+returns c = told_of c.read.ensures c.give.ensures c.taken_words.ensures

@@ -3,4 +3,4 @@ use borrow.Author.Rules.{rules}
 use Rattle.layout.proofs.falling_in.Goals as goal
 
 pub returns : goal.returns
-returns c = falling-read _ _ c.read16.ensures c.falling_of.ensures
+returns c = falling-read _ _ c.read.ensures c.falling_of.ensures

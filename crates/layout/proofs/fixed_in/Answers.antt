@@ -3,4 +3,4 @@ use borrow.Author.Rules.{rules}
 use Rattle.layout.proofs.fixed_in.Goals as goal
 
 pub returns : goal.returns
-returns c = fixed-read _ _ c.read16.ensures c.fixed_of.ensures
+returns c = fixed-read _ _ c.read.ensures c.fixed_of.ensures

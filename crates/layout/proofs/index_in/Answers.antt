@@ -3,4 +3,4 @@ use borrow.Author.Rules.{rules}
 use Rattle.layout.proofs.index_in.Goals as goal
 
 pub returns : goal.returns
-returns c = index_read _ _ c.read16.ensures c.index_of.ensures
+returns c = index_read _ _ c.read.ensures c.index_of.ensures

@@ -3,4 +3,4 @@ use borrow.Author.Rules.{rules}
 use Rattle.layout.proofs.listed_at.Goals as goal
 
 pub returns : goal.returns
-returns c = listed-read _ _ _ _ (search rules) c.read16.ensures c.capability_of.ensures
+returns c = listed-read _ _ _ _ (search rules) c.read.ensures c.capability_of.ensures

@@ -3,4 +3,4 @@ use borrow.Author.Rules.{rules}
 use Rattle.layout.proofs.numbers_in.Goals as goal
 
 pub returns : goal.returns
-returns c = numbers-read _ _ c.read16.ensures c.numbers_of.ensures
+returns c = numbers-read _ _ c.read.ensures c.numbers_of.ensures

@@ -3,4 +3,4 @@ use borrow.Author.Rules.{rules}
 use Rattle.layout.proofs.renewal_in.Goals as goal
 
 pub returns : goal.returns
-returns c = renewal-read _ _ c.read16.ensures c.renewal_of.ensures
+returns c = renewal-read _ _ c.read.ensures c.renewal_of.ensures

@@ -3,4 +3,4 @@ use borrow.Author.Rules.{rules}
 use Rattle.layout.proofs.request_in.Goals as goal
 
 pub returns : goal.returns
-returns c = request-read _ _ c.read16.ensures c.request_of.ensures
+returns c = request-read _ _ c.read.ensures c.request_of.ensures

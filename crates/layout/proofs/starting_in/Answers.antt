@@ -3,4 +3,4 @@ use borrow.Author.Rules.{rules}
 use Rattle.layout.proofs.starting_in.Goals as goal
 
 pub returns : goal.returns
-returns c = starting-read _ _ c.read16.ensures c.starting_of.ensures
+returns c = starting-read _ _ c.read.ensures c.starting_of.ensures

@@ -3,4 +3,4 @@ use borrow.Author.Rules.{rules}
 use Rattle.layout.proofs.submission_in.Goals as goal
 
 pub returns : goal.returns
-returns c = submission-read _ _ c.read16.ensures c.submission_of.ensures
+returns c = submission-read _ _ c.read.ensures c.submission_of.ensures

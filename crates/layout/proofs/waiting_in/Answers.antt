@@ -3,4 +3,4 @@ use borrow.Author.Rules.{rules}
 use Rattle.layout.proofs.waiting_in.Goals as goal
 
 pub returns : goal.returns
-returns c = waiting-read _ _ c.read16.ensures c.waiting_of.ensures
+returns c = waiting-read _ _ c.read.ensures c.waiting_of.ensures
