@@ -11,7 +11,7 @@ ghost use Rattle.wire.specs.Wire.{records_in, answer_bytes, written};
 
 use format::plain_words;
 use host_records::step;
-use words::{put_record, record_at};
+use words::{put_words, words_at};
 
 fn lesser(a: usize, b: usize) -> usize
     ensures { result ≡ min a b }
@@ -32,9 +32,9 @@ fn run_records(input: &[u8], output: &mut [u8], count: usize)
     let mut state = [0u64; 2464];
     let mut i: usize = 0;
     while i < count {
-        let words = record_at(input, 128 * i);
+        let words = words_at(input, 128 * i);
         let answer = step(&mut state, words);
-        put_record(output, 208 * i, answer);
+        put_words(output, 208 * i, answer);
         i += 1;
     }
 }
@@ -44,7 +44,7 @@ pub fn answer_short(output: &mut [u8], at: usize)
     requires { at + 208 ≤ length output.old }
     ensures { output.new ≡ over output.old at (bytes_of (padded 65 0 [])) }
 {
-    put_record(output, at, plain_words(65, 0));
+    put_words(output, at, plain_words(65, 0));
 }
 
 // Runs lives. The answer is how many bytes were written.

@@ -13,7 +13,7 @@ use format::plain_words;
 use layout::{numbers_in, put_numbers, starting_in};
 use state::Numbers;
 use wire::answer_short;
-use words::{put_record, record_at};
+use words::{put_words, words_at};
 
 // A counter set.
 fn with_counter(numbers: Numbers, which: u64, value: u64) -> Numbers
@@ -62,9 +62,9 @@ fn run_records(input: &[u8], output: &mut [u8], count: usize)
     let mut state = [0u64; 2464];
     let mut i: usize = 0;
     while i < count {
-        let words = record_at(input, 128 * i);
+        let words = words_at(input, 128 * i);
         let answer = step(&mut state, words);
-        put_record(output, 208 * i, answer);
+        put_words(output, 208 * i, answer);
         i += 1;
     }
 }

@@ -5,9 +5,9 @@
 // Rests on nothing but the language.
 #![tactic(auto)]
 
-ghost use Rattle.std.specs.Prelude.{◌≡◌, ◌+◌, ◌%◌, ◌≤◌, ◌<◌, length};
+ghost use Rattle.std.specs.Prelude.{◌≡◌, ◌+◌, ◌*◌, ◌%◌, ◌≤◌, ◌<◌, length};
 ghost use Rattle.words.specs.Signs.{signed as signed_of, unsigned as unsigned_of};
-ghost use Rattle.words.specs.Words.{half_at, word_at, record_at, little_end, little_number, bytes_of, over};
+ghost use Rattle.words.specs.Words.{half_at, word_at, words_at, little_end, little_number, bytes_of, over};
 
 fn wide(byte: u8) -> u64
     ensures value { result ≡ byte }
@@ -38,16 +38,14 @@ pub fn word(input: &[u8], at: usize) -> u64
     low + 4294967296 * high
 }
 
-// The words of an input record.
-pub fn record_at(input: &[u8], at: usize) -> [u64; 16]
-    requires { at + 128 ≤ length input.now }
-    ensures { result ≡ record_at input.now at }
+// The words that stand from a place on, as many as are wanted.
+pub fn words_at<const N: usize>(bytes: &[u8], at: usize) -> [u64; N]
+    requires { at + 8 * N ≤ length bytes.now }
+    ensures { result ≡ words_at N bytes.now at }
 {
-    let mut words = [0; 16];
-    let mut i = 0;
-    while i < 16 {
-        words[i] = word(input, at + 8 * i);
-        i += 1;
+    let mut words = [0; N];
+    for i in 0..N {
+        words[i] = word(bytes, at + 8 * i);
     }
     words
 }
@@ -58,15 +56,15 @@ fn low_byte(word: u64) -> u8
     (word % 256) as u8
 }
 
-// Writes the words of an output record.
-pub fn put_record(output: &mut [u8], at: usize, words: [u64; 26])
-    requires { at + 208 ≤ length output.old }
-    ensures { output.new ≡ over output.old at (bytes_of words) }
+// Writes words, one after another.
+pub fn put_words<const N: usize>(output: &mut [u8], at: usize, words: [u64; N])
+    requires { at + 8 * N ≤ length output.old }
+    ensures { output.new ≡ over output.old at (bytes_of words.entry) }
 {
-    let mut i = 0;
-    while i < 26 {
-        put_number(output, at + 8 * i, 8, words[i]);
-        i += 1;
+    let mut place = at;
+    for word in words {
+        put_number(output, place, 8, word);
+        place += 8;
     }
 }
 

@@ -7,4 +7,4 @@ use Rattle.wire.proofs.answer_short.Goals as goal
 pub returns : goal.returns
 returns c =
     let a = c.args in
-    c.put_record.ensures ∙ ap (λ (ws : List ℕ). over a.output.now a.at (bytes_of ws)) c.plain_words.ensures
+    c.put_words.ensures ∙ ap (λ (ws : List ℕ). over a.output.now a.at (bytes_of ws)) c.plain_words.ensures

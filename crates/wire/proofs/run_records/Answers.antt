@@ -15,21 +15,21 @@ slice_bounds-step-end c = sym c.loop-i.invariant.1.long
 pub step-answer-requires : goal.step-answer-requires
 step-answer-requires c = let l = c.loop-i.invariant.1.long in omega (arith, l)
 
-pub put_record-requires : goal.put_record-requires
-put_record-requires c =
+pub put_words-requires : goal.put_words-requires
+put_words-requires c =
     let t = c.loop-i-test in
     let l = c.loop-i in
     let p = c.requires in
-    room _ _ _ _ t.true p.1 l.invariant.1.same
+    (omega arith, room _ _ _ _ t.true p.1 l.invariant.1.same)
 
 pub loop-i-preserved : goal.loop-i-preserved
 loop-i-preserved c =
     let t = c.loop-i-test in
     let l = c.loop-i in
     let p = c.requires in
-    let w = c.record_at-words in
+    let w = c.words_at-words in
     let u = c.step-answer in
-    let o = c.put_record in (
+    let o = c.put_words in (
       next-count _ _ t.true,
       ran-more l.invariant.1 w.ensures u.result u.ensures (search rules) _ (next-room _ _ _ t.true p.1) o.ensures,
     )

@@ -17,19 +17,19 @@ slice_bounds-step-end c = sym c.loop-i.invariant.1.0
 pub step-answer-requires : goal.step-answer-requires
 step-answer-requires c = let l = c.loop-i.invariant.1 in (omega (arith, l.0), l.1.0)
 
-pub put_record-requires : goal.put_record-requires
-put_record-requires c =
+pub put_words-requires : goal.put_words-requires
+put_words-requires c =
     let t = c.loop-i-test in
     let l = c.loop-i in
     let p = c.requires in
-    room _ _ _ _ t.true p.1 l.invariant.1.1.1
+    (omega arith, room _ _ _ _ t.true p.1 l.invariant.1.1.1)
 
 pub loop-i-preserved : goal.loop-i-preserved
 loop-i-preserved c =
     let t = c.loop-i-test in
     let l = c.loop-i in
     let u = c.step-answer in
-    let o = c.put_record in (
+    let o = c.put_words in (
       next-count _ _ t.true,
       (u.ensures.0 ∙ l.invariant.1.0, (u.ensures.1, kept-length l.i c.args.output.now l.output _ u.result t.true c.requires.1 l.invariant.1.1.1 (search rules) o.ensures)),
     )

@@ -1,11 +1,7 @@
-use borrow.Author.Rules.{rules}
 use Prim.Native.Nat.{◌-◌, ◌^◌, ◌≤◌, ◌<◌}
-use mathlib.Core.Path.{◌≡◌, ◌∙◌}
-use native.Mathlib.Nat.{one-le-pow}
-use native.Mathlib.Omega.{arith}
+use mathlib.Core.Path.{◌≡◌}
 use lib.ListN.{length, drop}
 use Rattle.words.specs.Words.{little_number}
-use Rattle.words.proofs.Numbers.{number-none, number_more, bound-more, bound-below}
 use Rattle.words.proofs.number.Given as goal
 
 -- the number of the bytes that are read, which is below what so many bytes can hold

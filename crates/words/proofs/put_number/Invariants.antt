@@ -1,11 +1,7 @@
-use borrow.Author.Rules.{rules}
 use Prim.Native.Nat.{◌+◌, ◌≤◌}
-use mathlib.Core.Path.{◌≡◌, refl, sym, ◌∙◌}
-use native.Mathlib.Omega.{arith}
+use mathlib.Core.Path.{◌≡◌}
 use lib.ListN.{length}
 use Rattle.words.specs.Words.{little_end, over}
-use Rattle.words.proofs.Over.{over-nil, over-cons}
-use Rattle.words.proofs.Numbers.{bytes-first}
 use Rattle.words.proofs.put_number.Given as goal
 
 -- the output with the bytes that are left written over it is what is asked

@@ -1,5 +1,4 @@
 use Rattle.words.proofs.SignLaws.{signed_low, high_fits, signed_high}
-use borrow.Author.Rules.{rules}
 use Rattle.words.proofs.signed.Goals as goal
 
 pub returns-then-bits-lt2147483648 : goal.returns-then-bits-lt2147483648
