@@ -1,15 +1,11 @@
-use Prim.Native.Nat.{◌+◌, ◌≤◌}
+use Prim.Native.Nat.{◌-◌}
+use mathlib.Core.List.{◌++◌}
 use mathlib.Core.Path.{◌≡◌}
-use lib.ListN.{length}
-use Rattle.words.specs.Words.{little_end, over}
+use lib.ListN.{length, take}
+use Rattle.words.specs.Words.{little_end}
 use Rattle.words.proofs.put_number.Given as goal
 
--- the output with the bytes that are left written over it is what is asked
-abbrev pub invariant-loop-left : goal.invariant-loop-left
-invariant-loop-left l =
-    (length l.output ≡ length l.initial.output)
-    × (l.place + l.left ≤ length l.initial.output)
-    × (over l.output l.place (little_end l.left l.rest) ≡ over l.initial.output l.at (little_end l.width l.number))
-
-abbrev pub decreases-loop-left : goal.decreases-loop-left
-decreases-loop-left l = l.left
+-- the bytes that are written and those of what is left are all
+abbrev pub invariant-loop-byte : goal.invariant-loop-byte
+invariant-loop-byte l =
+    (length l.byte-items ≡ l.width) × (take l.byte-index l.byte-items ++ little_end (l.width - l.byte-index) l.rest ≡ little_end l.width l.number)

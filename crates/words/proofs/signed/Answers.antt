@@ -1,11 +1,9 @@
-use Rattle.words.proofs.SignLaws.{signed_low, high_fits, signed_high}
+use mathlib.Core.Path.{◌∙◌}
+use mir.Facts.{to_z-of_z}
+use borrow.Author.Rules.{rules}
+use mir.Syntax.{w32}
+use Rattle.words.proofs.SignLaws.{signed-is}
 use Rattle.words.proofs.signed.Goals as goal
 
-pub returns-then-bits-lt2147483648 : goal.returns-then-bits-lt2147483648
-returns-then-bits-lt2147483648 c = signed_low _ c.if-bits-lt2147483648.true
-
-pub overflow_sub-result : goal.overflow_sub-result
-overflow_sub-result c = high_fits _ c.if-bits-lt2147483648.false
-
 pub returns : goal.returns
-returns c = signed_high _ c.if-bits-lt2147483648.false
+returns c = to_z-of_z {w = w32} {z = c.cast_signed.result} (search rules) ∙ c.cast_signed.ensures ∙ signed-is c.args.bits
