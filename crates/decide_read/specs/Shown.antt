@@ -1,6 +1,7 @@
 -- What a host is shown, as equations, and what it says in the rules' words: what is absent is blank.
-use Rattle.std.specs.Prelude.{ℕ, Bool, true, false, cond, List, [], ◌∷◌, ◌≡◌, ltb, ℤ, pos}
-use Rattle.std.proofs.Math.Option.{Option, some, none}
+use Rattle.std.specs.Prelude.{ℕ, Bool, true, false, cond, List, [], ◌∷◌, ◌≡◌, ltb, ℤ, pos, Option, Some, None}
+use Rattle.std.proofs.Math.Option.{some, none}
+use Rattle.std.proofs.Math.Option as maybe
 use Rattle.model.specs.declared.Capability.{Capability}
 use Rattle.model.specs.declared.Config.{Config}
 use Rattle.model.specs.declared.Lease.{Lease}
@@ -15,8 +16,8 @@ use Rattle.model.specs.declared.RuntimeState.TheVariants.{Faulted}
 use Rattle.model.specs.declared.Snapshot.{Snapshot}
 use Rattle.model.specs.Records.{no_lease, no_capability, no_receipt}
 use Rattle.receipts.specs.Indexes.{Points}
-use Rattle.receipts.specs.declared.Found.{Found}
 use Rattle.receipts.specs.declared.Index.{Index}
+use Rattle.receipts.specs.declared.Place.{Place}
 use Rattle.rules.specs.Protocol.{ItemObserve, ItemExecute, ItemFallback, ItemRecord, Value, Output, Shows, NoRuntime, OfState, OfNumber, OfConfig, OfSnapshot, OfLease, OfCapability, OfReceipt}
 use Rattle.rules.specs.Protocol as Protocol
 use Rattle.state.specs.State.{lease_in}
@@ -93,11 +94,11 @@ abbrev pub snapshot_at : Bool → Fixed → Numbers → ℕ → SnapshotShown
 snapshot_at there f n retained = record { runtime = presence_of there; snapshot = cond there (snapshot_of f n retained) no_snapshot }
 
 -- a slot of what may be missing: an absent one holds a blank lease
-unfoldable pub slot_with : Option Lease → LeaseSlot
+unfoldable pub slot_with : maybe.Option Lease → LeaseSlot
 slot_with none = no_lease
 slot_with (some l) = record { presence = Present; lease = l }
 
-abbrev pub lease_shown_at : Bool → Option Lease → LeaseShown
+abbrev pub lease_shown_at : Bool → maybe.Option Lease → LeaseShown
 lease_shown_at there l = record { runtime = presence_of there; slot = cond there (slot_with l) no_lease }
 
 abbrev pub place_or16 : ℕ → ℕ → ℕ
@@ -111,18 +112,18 @@ capability_at false at c = no_capability_in Absent
 capability_at true at c = cond (ltb at 16) (record { runtime = Present; presence = Present; capability = c }) (no_capability_in Present)
 
 -- where a receipt is noted: at a place of one circle, and at the spare place of the other
-abbrev pub rejected_by : Found → ℕ
-rejected_by (Found.Rejected place) = place
-rejected_by (Found.Other place) = 64
-rejected_by Found.Nothing = 64
+abbrev pub rejected_by : Option Place → ℕ
+rejected_by (Some (Place.Rejected place)) = place
+rejected_by (Some (Place.Other place)) = 64
+rejected_by None = 64
 
-abbrev pub others_by : Found → ℕ
-others_by (Found.Rejected place) = 64
-others_by (Found.Other place) = place
-others_by Found.Nothing = 64
+abbrev pub others_by : Option Place → ℕ
+others_by (Some (Place.Rejected place)) = 64
+others_by (Some (Place.Other place)) = place
+others_by None = 64
 
 pub record NotedAs (i : Index) (at : ℕ) (n : Noted) : Type 0 where
-  pub found : Found
+  pub found : Option Place
   pub points : Points i at found
   pub rejected : n.rejected ≡ rejected_by found
   pub others : n.others ≡ others_by found
@@ -143,7 +144,7 @@ abbrev shown_if : Presence → Value → Output
 shown_if Absent v = NoRuntime
 shown_if Present v = Shows v
 
-abbrev value_if : {A : Type 0} → Presence → A → Option A
+abbrev value_if : {A : Type 0} → Presence → A → maybe.Option A
 value_if Absent x = none
 value_if Present x = some x
 
@@ -178,7 +179,7 @@ item_with kind axis reason capability parameters receipt =
     record { kind = kind; axis = axis; reason = reason; capability = capability; parameters = parameters; receipt = receipt }
 
 -- an item of the rules, or none, with blanks for what it has not
-unfoldable pub shown_item : Option Protocol.Item → ItemShown
+unfoldable pub shown_item : maybe.Option Protocol.Item → ItemShown
 shown_item none = item_with ItemKind.Nothing 0 Ok 0 no_parameters no_receipt
 shown_item (some (ItemObserve axis)) = item_with ItemKind.Observe axis Ok 0 no_parameters no_receipt
 shown_item (some (ItemExecute c ps)) = item_with ItemKind.Execute 0 Ok c ps no_receipt

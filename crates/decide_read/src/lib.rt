@@ -14,7 +14,7 @@ use decide_start::{Stage, Starting};
 use model::{
     Capability, Config, Lease, LeaseSlot, Presence, Reason, Receipt, RuntimeState, Snapshot,
 };
-use receipts::{Found, Index, place_of};
+use receipts::{Index, Place, place_of};
 use state::{AfterRecord, Awaited, Falling, Fixed, Mode, Numbers, Waiting};
 
 // A number, where there is a runtime.
@@ -261,17 +261,16 @@ pub fn noted_at(index: Index, at: usize) -> Noted
     requires { Numbered index }
     ensures { NotedAs index at result }
 {
-    let found = place_of(index, at);
-    match found {
-        Found::Rejected(place) => Noted {
+    match place_of(index, at) {
+        Some(Place::Rejected(place)) => Noted {
             rejected: place,
             others: 64,
         },
-        Found::Other(place) => Noted {
+        Some(Place::Other(place)) => Noted {
             rejected: 64,
             others: place,
         },
-        Found::Nothing => Noted {
+        None => Noted {
             rejected: 64,
             others: 64,
         },

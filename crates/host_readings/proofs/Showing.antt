@@ -8,6 +8,7 @@ use native.Mathlib.Omega.{arith}
 use borrow.Author.Tests.{lt-ltb, le-ltb}
 use lib.Dec.{ltb}
 use lib.ListN.{get_or}
+use Rattle.std.specs.Prelude.{Option, Some, None}
 use Rattle.model.specs.declared.Capability.{Capability}
 use Rattle.model.specs.declared.Lease.{Lease}
 use Rattle.model.specs.declared.LeaseSlot.{LeaseSlot}
@@ -15,8 +16,8 @@ use Rattle.model.specs.declared.Receipt.{Receipt}
 use Rattle.model.specs.declared.Submission.{Submission}
 use Rattle.model.specs.Records.{no_lease, no_capability, no_receipt}
 use Rattle.receipts.specs.Indexes.{Numbered, Points}
-use Rattle.receipts.specs.declared.Found.{Found}
 use Rattle.receipts.specs.declared.Index.{Index}
+use Rattle.receipts.specs.declared.Place.{Place}
 use Rattle.receipts.proofs.Circles.{lt-or-ge}
 use Rattle.rows.specs.Rows.{carrying_of}
 use Rattle.rows.proofs.Codes.{below_less}
@@ -55,15 +56,15 @@ pub not-numbered : {A : Type 0} {i : Index} {b : Bool} → Tells b (Numbered i) 
 not-numbered t e n = absurd (false≢true (sym e ∙ t.no n))
 
 module _ {i : Index} {at : ℕ} where
-  rejected-low : (f : Found) → Points i at f → rejected_by f < 65
-  rejected-low (Found.Rejected p) m = omega (arith, m.inside)
-  rejected-low (Found.Other p) m = omega arith
-  rejected-low Found.Nothing m = omega arith
+  rejected-low : (f : Option Place) → Points i at f → rejected_by f < 65
+  rejected-low (Some (Place.Rejected p)) m = omega (arith, m.inside)
+  rejected-low (Some (Place.Other p)) m = omega arith
+  rejected-low None m = omega arith
 
-  others-low : (f : Found) → Points i at f → others_by f < 65
-  others-low (Found.Rejected p) m = omega arith
-  others-low (Found.Other p) m = omega (arith, m.inside)
-  others-low Found.Nothing m = omega arith
+  others-low : (f : Option Place) → Points i at f → others_by f < 65
+  others-low (Some (Place.Rejected p)) m = omega arith
+  others-low (Some (Place.Other p)) m = omega (arith, m.inside)
+  others-low None m = omega arith
 
   pub noted-some : {n : Noted} → NotedAs i at n → NotedAny i at n
   noted-some e =

@@ -6,7 +6,8 @@ use native.Mathlib.Omega.{arith}
 use mathlib.Core.Path.{◌≡◌, refl, ap}
 use mathlib.Core.Bool.{Bool, true, false, cond, ◌||◌, true≢false, false≢true}
 use mathlib.Core.List.{List, [], ◌∷◌, ◌++◌, map}
-use lib.ListN.{length, get_or, take, replicate, get_elem?}
+use lib.ListN.{length, get_or, take, replicate}
+use Rattle.std.specs.List.{slice_get}
 use Rattle.model.specs.declared.Receipt.{Receipt}
 use Rattle.model.specs.Lists.{any}
 use Rattle.rules.specs.Receipts.{rejected, drop_first_rejected, evict}
@@ -126,7 +127,7 @@ before-false (true ∷ bs) (suc at) h e = let i = before-false bs at (le_of_suc-
 before-false (false ∷ bs) (suc at) h e = let i = before-false bs at (le_of_suc-le-suc h) e in omega arith
 
 pub merge-at : (bs : List Bool) (rs os : List ℕ) (at : ℕ) → Told bs rs os → at < length bs
-    → get_elem? (merge bs rs os) at ≡ cond (get_or bs at false) (get_elem? rs (trues (take at bs))) (get_elem? os (at - trues (take at bs)))
+    → slice_get (merge bs rs os) at ≡ cond (get_or bs at false) (slice_get rs (trues (take at bs))) (slice_get os (at - trues (take at bs)))
 merge-at [] rs os at t h = absurd (not-suc-le-zero h)
 merge-at (true ∷ bs) [] os at t h = absurd (no-rejection bs [] os t)
 merge-at (true ∷ bs) (r ∷ rs) os zero t h = refl

@@ -6,35 +6,34 @@ use native.Mathlib.Numerals.{add-one}
 use native.Mathlib.Omega.{arith}
 use mathlib.Core.Path.{◌≡◌, refl, sym, ap, ◌∙◌}
 use mathlib.Core.Bool.{Bool, true, false, cond}
-use mathlib.Core.List.{List, [], ◌∷◌, ◌++◌, map}
-use mathlib.Core.Option.{some}
+use mathlib.Core.List.{List, [], ◌∷◌, ◌++◌, map, map-append}
 use lib.Count.{ones}
 use lib.Dec.{ltb}
-use lib.ListN.{length, get_or, set, take, get_elem?, length-set, length-map}
+use lib.ListN.{length, get_or, set, take, length-set, length-map}
 use lib.Pow.{pow_mono}
 use lib.Seq.{get_or-set_same}
 use borrow.Author.Tests.{lt-ltb, le-ltb, eq-eqb, ne_eqb}
+use Rattle.std.specs.List.{slice_get}
+use Rattle.std.specs.Prelude.{Some, None}
+use Rattle.std.proofs.lemmas.Option.{slice_get-get_or, slice_get-map, slice_get_past}
 use Rattle.model.specs.Records.{no_receipt}
-use Rattle.model.specs.declared.Presence.TheVariants.{Absent, Present}
 use Rattle.model.specs.declared.Receipt.{Receipt}
 use Rattle.rules.specs.Receipts.{is_rejected, rejected, keep}
 use Rattle.receipts.specs.declared.Circle.{Circle}
 use Rattle.receipts.specs.declared.Index.{Index}
 use Rattle.receipts.specs.declared.Freed.{Freed}
 use Rattle.receipts.specs.declared.Pushed.{Pushed}
-use Rattle.receipts.specs.declared.Found.{Found}
-use Rattle.receipts.specs.declared.Found.TheVariants.{Rejected, Other, Nothing}
+use Rattle.receipts.specs.declared.Place.TheVariants.{Rejected, Other}
 use Rattle.receipts.specs.declared.Ring.{Ring}
-use Rattle.receipts.specs.declared.KeptReceipt.{KeptReceipt}
 use Rattle.receipts.specs.Orders.{order, around, kinds_of, trues, odd, times, one, Top, Counted, Roomy}
 use Rattle.receipts.specs.Circles.{slots_of, place_at, longer_by, shorter_by}
 use Rattle.receipts.specs.Circles as circles
 use Rattle.receipts.specs.Indexes.{Stores, in_slot, rejected_slots, other_slots, list_of, Numbered, Long, Sound, Opens, Fronts, Room, Frees, stored, Keeps, Pushes, Points}
-use Rattle.receipts.specs.Rings.{stores_of, Kept, Records, kept_at}
+use Rattle.receipts.specs.Rings.{stores_of, Kept, Records}
 use Rattle.receipts.proofs.Circles.{next-below, place-below, slots_length, slots-shorter, slots-longer, slot_at}
 use Rattle.receipts.proofs.KindBits.{kinds-length, kinds-positive, kind_at, older-at}
 use Rattle.receipts.proofs.Merges.{Told, trues-take, before-true, before-false, merge-at}
-use Rattle.receipts.proofs.Uses.{times-at, below_of, stored-map, stored-all, map_snoc, some_at, same_at, map_at, past_end}
+use Rattle.receipts.proofs.Uses.{times-at, below_of, stored-map, stored-all}
 use Rattle.receipts.proofs.Steps.{order-length, counted-rejection, counted-other, counted-dropped, counted-oldest, count-free, Dropped, rejection-dropped, other-dropped, Grown, rejection-grown, other-grown, slot-below, slot-unused, order-unused}
 
 abbrev count : Index → ℕ
@@ -204,7 +203,7 @@ module _ (i : Index) (a b : ℕ) (f : Freed) (m : Frees i a b f) where
       unfolding list_of keep
       keeps-rule =
           ap (map after) (grown st r s.long roomy).appended
-          ∙ map_snoc after (order f.index.kinds (rs st) (os st)) p.slot
+          ∙ map-append after (order f.index.kinds (rs st) (os st)) (p.slot ∷ [])
           ∙ rw (at_slot, stored-map no_receipt st.receipts p.slot r (order f.index.kinds (rs st) (os st)) (order-unused 64 f.index.kinds (rs st) (os st) p.slot roomy))
           (ap (λ (l : List Receipt). l ++ (r ∷ [])) room.keeps)
 
@@ -268,8 +267,8 @@ module _ (i : Index) (a b : ℕ) (f : Freed) (m : Frees i a b f) where
 
 -- the receipt at a place ---------------------------------------------------------------------------------------------
 
-pub points_none : (i : Index) (at : ℕ) → count i ≤ at → Points i at Nothing
-points_none i at h = record { inside = tt; below = λ st s. omega arith; reads = λ st s. past_end (list_of i st) at (omega (arith, list_length i st s)) }
+pub points_none : (i : Index) (at : ℕ) → count i ≤ at → Points i at None
+points_none i at h = record { inside = tt; below = λ st s. omega arith; reads = λ st s. slice_get_past (list_of i st) at (omega (arith, list_length i st s)) }
 
 module _ (i : Index) (n : Numbered i) (at : ℕ) (h : at < count i) where
   abbrev newer : ℕ
@@ -298,8 +297,8 @@ module _ (i : Index) (n : Numbered i) (at : ℕ) (h : at < count i) where
 
   -- a slot in use, that stands there in the order
   module _ (st : Stores) (s : Sound i st) where
-    at_place : get_elem? (order i.kinds (rejected_slots i st) (other_slots i st)) at
-        ≡ cond (get_or kinds at false) (get_elem? (rejected_slots i st) older) (get_elem? (other_slots i st) (at - older))
+    at_place : slice_get (order i.kinds (rejected_slots i st) (other_slots i st)) at
+        ≡ cond (get_or kinds at false) (slice_get (rejected_slots i st) older) (slice_get (other_slots i st) (at - older))
     unfolding order
     at_place =
         let told : Told kinds (rejected_slots i st) (other_slots i st) = record {
@@ -311,9 +310,9 @@ module _ (i : Index) (n : Numbered i) (at : ℕ) (h : at < count i) where
     used-below : (x : ℕ) → 0 < times x (rejected_slots i st) + times x (other_slots i st) → x < 64
     used-below x u = omega (arith, s.ordered.within, below_of x (length (rejected_slots i st) + length (other_slots i st)) (omega (arith, s.ordered.once x)))
 
-    reads-slot : (x : ℕ) → get_elem? (order i.kinds (rejected_slots i st) (other_slots i st)) at ≡ some x → get_elem? (list_of i st) at ≡ some (in_slot st x)
+    reads-slot : (x : ℕ) → slice_get (order i.kinds (rejected_slots i st) (other_slots i st)) at ≡ Some x → slice_get (list_of i st) at ≡ Some (in_slot st x)
     unfolding list_of
-    reads-slot x e = map_at (in_slot st) (order i.kinds (rejected_slots i st) (other_slots i st)) at x e
+    reads-slot x e = slice_get-map (in_slot st) (order i.kinds (rejected_slots i st) (other_slots i st)) at ∙ rw e
 
   module _ (e : upto % 2 ≡ 1) where
     rejection : get_or kinds at false ≡ true
@@ -322,7 +321,7 @@ module _ (i : Index) (n : Numbered i) (at : ℕ) (h : at < count i) where
     pub older-rejections : older < i.rejected.count
     older-rejections = omega (arith, before-true kinds at in-kinds rejection, older-is, n.counted.told)
 
-    pub points-rejection : Points i at (Rejected (place_at i.rejected older))
+    pub points-rejection : Points i at (Some (Rejected (place_at i.rejected older)))
     points-rejection = record {
       inside = place-below i.rejected older n.rejections (omega (arith, older-rejections, n.within));
       below = λ st s.
@@ -332,7 +331,7 @@ module _ (i : Index) (n : Numbered i) (at : ℕ) (h : at < count i) where
       reads = λ st s.
           let k : older < length (rejected_slots i st) = omega (arith, older-rejections, slots_length i.rejected st.rejections) in
           rw (slot_at i.rejected st.rejections n.rejections older (omega (arith, n.within)) older-rejections)
-          (reads-slot st s (get_or (rejected_slots i st) older 0) (at_place st s ∙ rw rejection (some_at (rejected_slots i st) older k)));
+          (reads-slot st s (get_or (rejected_slots i st) older 0) (at_place st s ∙ rw rejection (slice_get-get_or (rejected_slots i st) older 0 k)));
     }
 
   module _ (e : upto % 2 ≡ 1 → ⊥) where
@@ -342,7 +341,7 @@ module _ (i : Index) (n : Numbered i) (at : ℕ) (h : at < count i) where
     pub older-others : at - older < i.others.count
     older-others = omega (arith, before-false kinds at in-kinds other, older-is, older-le, n.counted.told, kinds-length (count i) i.kinds)
 
-    pub points-other : Points i at (Other (place_at i.others (at - older)))
+    pub points-other : Points i at (Some (Other (place_at i.others (at - older))))
     points-other = record {
       inside = place-below i.others (at - older) n.others (omega (arith, older-others, n.within));
       below = λ st s.
@@ -352,38 +351,8 @@ module _ (i : Index) (n : Numbered i) (at : ℕ) (h : at < count i) where
       reads = λ st s.
           let k : at - older < length (other_slots i st) = omega (arith, older-others, slots_length i.others st.others) in
           rw (slot_at i.others st.others n.others (at - older) (omega (arith, n.within)) older-others)
-          (reads-slot st s (get_or (other_slots i st) (at - older) 0) (at_place st s ∙ rw other (some_at (other_slots i st) (at - older) k)));
+          (reads-slot st s (get_or (other_slots i st) (at - older) 0) (at_place st s ∙ rw other (slice_get-get_or (other_slots i st) (at - older) 0 k)));
     }
-
--- what the answer stands for
-module _ (i : Index) (at : ℕ) (f : Found) (p : Points i at f) (st : Stores) (s : Sound i st) where
-  module _ (k : ℕ) (e : f ≡ Rejected k) where
-    pub rejected-inside : k < 64
-    rejected-inside = (rw e at p).inside
-
-    pub rejected-below : get_or st.rejections k 0 < 64
-    rejected-below = (rw e at p).below st s
-
-    pub kept-rejected : (d : Receipt)
-        → ◌≡◌ {A = KeptReceipt} (record { presence = Present; receipt = get_or st.receipts (get_or st.rejections k 0) d }) (kept_at (get_elem? (list_of i st) at))
-    unfolding kept_at
-    kept-rejected d = let q = (rw e at p).reads st s in rw (q, same_at d no_receipt st.receipts (get_or st.rejections k 0) (omega (arith, rejected-below, s.long.receipts)))
-
-  module _ (k : ℕ) (e : f ≡ Other k) where
-    pub other-inside : k < 64
-    other-inside = (rw e at p).inside
-
-    pub other-below : get_or st.others k 0 < 64
-    other-below = (rw e at p).below st s
-
-    pub kept-other : (d : Receipt)
-        → ◌≡◌ {A = KeptReceipt} (record { presence = Present; receipt = get_or st.receipts (get_or st.others k 0) d }) (kept_at (get_elem? (list_of i st) at))
-    unfolding kept_at
-    kept-other d = let q = (rw e at p).reads st s in rw (q, same_at d no_receipt st.receipts (get_or st.others k 0) (omega (arith, other-below, s.long.receipts)))
-
-  pub kept-nothing : f ≡ Nothing → ◌≡◌ {A = KeptReceipt} (record { presence = Absent; receipt = no_receipt }) (kept_at (get_elem? (list_of i st) at))
-  unfolding kept_at
-  kept-nothing e = let q = (rw e at p).reads st s in rw q
 
 -- a push into a ring -------------------------------------------------------------------------------------------------
 

@@ -7,9 +7,8 @@ use mathlib.Core.Path.{◌≡◌, refl, ap}
 use mathlib.Core.Logic.{◌≢◌, ⊎_elim}
 use mathlib.Core.Bool.{Bool, true, false}
 use mathlib.Core.List.{List, [], ◌∷◌, ◌++◌, map}
-use mathlib.Core.Option.{none, some}
 use lib.Dec.{eqb, ltb}
-use lib.ListN.{length, get_or, set, get_elem?}
+use lib.ListN.{length, get_or, set}
 use lib.Seq.{get_or-set_other}
 use borrow.Author.Tests.{eq-eqb, ne_eqb, lt-ltb, le-ltb}
 use Rattle.receipts.specs.Orders.{All, merge, one, times}
@@ -77,27 +76,3 @@ module _ {A : Type 0} (d : A) (xs : List A) (s : ℕ) (x : A) where
 pub all_snoc : {A : Type 0} (P : A → Type 0) (xs : List A) (x : A) → All P xs → P x → All P (xs ++ (x ∷ []))
 all_snoc P [] x a p = (p, tt)
 all_snoc P (y ∷ xs) x a p = (a.0, all_snoc P xs x a.1 p)
-
-pub map_snoc : {A B : Type 0} (f : A → B) (xs : List A) (x : A) → map f (xs ++ (x ∷ [])) ≡ map f xs ++ (f x ∷ [])
-map_snoc f [] x = refl
-map_snoc {B = B} f (y ∷ xs) x = ap (λ (l : List B). f y ∷ l) (map_snoc f xs x)
-
-pub some_at : (xs : List ℕ) (k : ℕ) → k < length xs → get_elem? xs k ≡ some (get_or xs k 0)
-some_at [] k h = absurd (not-suc-le-zero h)
-some_at (x ∷ xs) zero h = refl
-some_at (x ∷ xs) (suc k) h = some_at xs k (le_of_suc-le-suc h)
-
-pub same_at : {A : Type 0} (d e : A) (xs : List A) (k : ℕ) → k < length xs → get_or xs k d ≡ get_or xs k e
-same_at d e [] k h = absurd (not-suc-le-zero h)
-same_at d e (x ∷ xs) zero h = refl
-same_at d e (x ∷ xs) (suc k) h = same_at d e xs k (le_of_suc-le-suc h)
-
-pub map_at : {B : Type 0} (f : ℕ → B) (xs : List ℕ) (k s : ℕ) → get_elem? xs k ≡ some s → get_elem? (map f xs) k ≡ some (f s)
-map_at f [] k s e = absurd (let z : ◌≡◌ {A = ℕ} 0 1 = cc in omega arith)
-map_at f (x ∷ xs) zero s e = cc
-map_at f (x ∷ xs) (suc k) s e = map_at f xs k s e
-
-pub past_end : {A : Type 0} (xs : List A) (k : ℕ) → length xs ≤ k → get_elem? xs k ≡ none
-past_end [] k h = refl
-past_end (x ∷ xs) zero h = absurd (not-suc-le-zero h)
-past_end (x ∷ xs) (suc k) h = past_end xs k (le_of_suc-le-suc h)

@@ -1,15 +1,13 @@
 -- An index over 64 slots: the list of receipts that it denotes, its soundness, and what a push and a look promise.
-use Rattle.std.specs.Prelude.{ℕ, ◌+◌, ◌<◌, ◌≤◌, ◌≡◌, Bool, true, false, cond, List, [], map, ltb, length, get_or, set}
-use Rattle.std.proofs.Math.Option.{Option, none, some}
-use Rattle.std.proofs.Math.ListN.{get_elem?}
+use Rattle.std.specs.Prelude.{ℕ, ◌+◌, ◌<◌, ◌≤◌, ◌≡◌, Bool, true, false, cond, List, [], map, ltb, length, get_or, set, slice_get, Option, Some, None}
 use Rattle.model.specs.Records.{no_receipt}
 use Rattle.model.specs.declared.Receipt.{Receipt}
 use Rattle.rules.specs.Receipts.{rejected, evict, keep}
 use Rattle.receipts.specs.declared.Index.{Index}
 use Rattle.receipts.specs.declared.Freed.{Freed}
 use Rattle.receipts.specs.declared.Pushed.{Pushed}
-use Rattle.receipts.specs.declared.Found.{Found}
-use Rattle.receipts.specs.declared.Found.TheVariants.{Rejected, Other, Nothing}
+use Rattle.receipts.specs.declared.Place.{Place}
+use Rattle.receipts.specs.declared.Place.TheVariants.{Rejected, Other}
 use Rattle.receipts.specs.Orders.{All, order, Counted, Ordered, Roomy}
 use Rattle.receipts.specs.Circles.{slots_of}
 
@@ -103,24 +101,23 @@ pub record Pushes (i : Index) (is_rejection : Bool) (oldest_rejected oldest_othe
       → Keeps i st is_rejection p r
 
 -- the slot number that an answer of `place_of` points at
-abbrev pub slot_at : Found → Stores → ℕ
-slot_at (Rejected p) st = get_or st.rejections p 0
-slot_at (Other p) st = get_or st.others p 0
-slot_at Nothing st = 0
+abbrev pub slot_at : Option Place → Stores → ℕ
+slot_at (Some (Rejected p)) st = get_or st.rejections p 0
+slot_at (Some (Other p)) st = get_or st.others p 0
+slot_at None st = 0
 
 -- the receipt that it points at
-abbrev pub pointed : Found → Stores → Option Receipt
-pointed (Rejected p) st = some (in_slot st (slot_at (Rejected p) st))
-pointed (Other p) st = some (in_slot st (slot_at (Other p) st))
-pointed Nothing st = none
+abbrev pub pointed : Option Place → Stores → Option Receipt
+pointed (Some p) st = Some (in_slot st (slot_at (Some p) st))
+pointed None st = None
 
-abbrev pub Inside : Found → Type 0
-Inside (Rejected p) = p < 64
-Inside (Other p) = p < 64
-Inside Nothing = Unit {0}
+abbrev pub Inside : Option Place → Type 0
+Inside (Some (Rejected p)) = p < 64
+Inside (Some (Other p)) = p < 64
+Inside None = Unit {0}
 
 -- what `place_of` promises: the receipt at a place from the oldest, if there is one
-pub record Points (i : Index) (at : ℕ) (f : Found) : Type 0 where
+pub record Points (i : Index) (at : ℕ) (f : Option Place) : Type 0 where
   pub inside : Inside f
   pub below : (st : Stores) → Sound i st → slot_at f st < 64
-  pub reads : (st : Stores) → Sound i st → get_elem? (list_of i st) at ≡ pointed f st
+  pub reads : (st : Stores) → Sound i st → slice_get (list_of i st) at ≡ pointed f st

@@ -1,12 +1,8 @@
 -- The ring: an index with what stands beside it.
 use Rattle.std.specs.Prelude.{◌≡◌, List, []}
-use Rattle.std.proofs.Math.Option.{Option, none, some}
-use Rattle.model.specs.Records.{no_receipt}
-use Rattle.model.specs.declared.Presence.TheVariants.{Absent, Present}
 use Rattle.model.specs.declared.Receipt.{Receipt}
 use Rattle.rules.specs.Receipts.{keep}
 use Rattle.receipts.specs.declared.Ring.{Ring}
-use Rattle.receipts.specs.declared.KeptReceipt.{KeptReceipt}
 use Rattle.receipts.specs.Indexes.{Stores, Sound, list_of}
 
 abbrev pub stores_of : Ring → Stores
@@ -29,8 +25,3 @@ pub record Starts (ring : Ring) : Type 0 where
 pub record Records (before : Ring) (r : Receipt) (after : Ring) : Type 0 where
   pub kept : Kept after
   pub keeps : receipts_of after ≡ keep 64 (receipts_of before) r
-
--- what `receipt` answers
-unfoldable pub kept_at : Option Receipt → KeptReceipt
-kept_at none = record { presence = Absent; receipt = no_receipt }
-kept_at (some r) = record { presence = Present; receipt = r }

@@ -6,16 +6,14 @@
 // `empty` sets up and every push keeps. Rests on `keep` of the crate rules, and on nothing but the language besides.
 #![tactic(auto)]
 
-ghost use Rattle.std.specs.Prelude.{◌≡◌, ◌<◌, ◌≤◌, length};
-ghost use Rattle.std.proofs.Math.ListN.{get_elem?};
-ghost use Rattle.model.specs.Records.{no_receipt};
+ghost use Rattle.std.specs.Prelude.{◌≡◌, ◌<◌, ◌≤◌, length, slice_get};
 ghost use Rattle.rules.specs.Receipts.{is_rejected};
 ghost use Rattle.receipts.specs.Orders.{wrapped, Top};
 ghost use Rattle.receipts.specs.Circles.{none, place_at, longer_by, shorter_by};
 ghost use Rattle.receipts.specs.Indexes.{Numbered, Opens, Frees, Pushes, Points};
-ghost use Rattle.receipts.specs.Rings.{Kept, receipts_of, kept_at, Starts, Records};
+ghost use Rattle.receipts.specs.Rings.{Kept, receipts_of, Starts, Records};
 
-use model::{Decision, Presence, Reason, Receipt};
+use model::{Decision, Receipt};
 
 // A circle of 64 places, the oldest at `head`: the slot numbers that stand there are held outside.
 #[derive(Clone, Copy)]
@@ -92,12 +90,11 @@ struct Freed {
     slot: usize,
 }
 
-// Where the slot number of the receipt asked for stands: a place of the rejections, or of the others.
+// Where the slot number of a receipt stands: a place of the rejections, or of the others.
 #[derive(Clone, Copy)]
-pub enum Found {
+pub enum Place {
     Rejected(usize),
     Other(usize),
-    Nothing,
 }
 
 impl Index {
@@ -189,7 +186,7 @@ pub fn push(index: Index, rejected: bool, oldest_rejected: u8, oldest_other: u8)
 }
 
 // Where the receipt at a place from the oldest is noted: its place in its circle is how many of its kind are older.
-pub fn place_of(index: Index, at: usize) -> Found
+pub fn place_of(index: Index, at: usize) -> Option<Place>
     requires { Numbered index }
     ensures { Points index at result }
 {
@@ -197,14 +194,14 @@ pub fn place_of(index: Index, at: usize) -> Found
     let others = index.others;
     let count = rejected.count + others.count;
     if count <= at {
-        return Found::Nothing;
+        return None;
     }
     let upto = index.kinds >> (count - 1 - at);
     let older = u64::count_ones(upto / 2) as usize;
     if upto % 2 == 1 {
-        Found::Rejected(rejected.at(older))
+        Some(Place::Rejected(rejected.at(older)))
     } else {
-        Found::Other(others.at(at - older))
+        Some(Place::Other(others.at(at - older)))
     }
 }
 
@@ -215,13 +212,6 @@ pub struct Ring {
     pub rejected: [u8; 64],
     pub others: [u8; 64],
     pub slots: [Receipt; 64],
-}
-
-// What stands at a place of the ring: an absent receipt is a blank one.
-#[derive(Clone, Copy)]
-pub struct KeptReceipt {
-    pub presence: Presence,
-    pub receipt: Receipt,
 }
 
 pub fn is_rejected(decision: Decision) -> bool
@@ -298,37 +288,14 @@ pub fn count(ring: Ring) -> usize
     rejected.count + others.count
 }
 
-// The receipt at a place from the oldest.
-pub fn receipt(ring: Ring, index: usize) -> KeptReceipt
+// The receipt at a place from the oldest, if there is one.
+pub fn receipt(ring: Ring, index: usize) -> Option<Receipt>
     requires { Kept ring }
-    ensures { result ≡ kept_at (get_elem? (receipts_of ring) index) }
+    ensures { result ≡ slice_get (receipts_of ring) index }
 {
-    let order = ring.index;
-    let rejected = ring.rejected;
-    let others = ring.others;
-    let slots = ring.slots;
-    let found = place_of(order, index);
-    match found {
-        Found::Rejected(place) => {
-            let kept = slots[rejected[place] as usize];
-            KeptReceipt {
-                presence: Presence::Present,
-                receipt: kept,
-            }
-        }
-        Found::Other(place) => {
-            let kept = slots[others[place] as usize];
-            KeptReceipt {
-                presence: Presence::Present,
-                receipt: kept,
-            }
-        }
-        Found::Nothing => {
-            let blank = Receipt::blank();
-            KeptReceipt {
-                presence: Presence::Absent,
-                receipt: blank,
-            }
-        }
-    }
+    let slot = match place_of(ring.index, index)? {
+        Place::Rejected(place) => ring.rejected[place],
+        Place::Other(place) => ring.others[place],
+    };
+    Some(ring.slots[slot as usize])
 }

@@ -7,8 +7,9 @@ use mathlib.Core.Path.{◌≡◌, refl, ap, ◌∙◌}
 use mathlib.Core.Bool.{true}
 use mathlib.Core.List.{List, [], ◌∷◌}
 use lib.Dec.{ltb}
-use lib.ListN.{length, length-append, get_elem?}
+use lib.ListN.{length, length-append}
 use borrow.Author.Tests.{lt-ltb}
+use Rattle.std.specs.List.{slice_get}
 use Rattle.model.specs.declared.Receipt.{Receipt}
 use Rattle.rules.specs.Receipts.{keep, evict, drop_first_rejected, rejected, is_rejected}
 use Rattle.receipts.specs.declared.Ring.{Ring}
@@ -29,10 +30,10 @@ issued-more n h =
 
 -- the numbers left
 abbrev pub number : List Receipt → ℕ → ℕ
-number l place = number_of (get_elem? l place)
+number l place = number_of (slice_get l place)
 
 pub fifth : number (issued 64) 4 ≡ 5
-unfolding issued receipt_of number_of
+unfolding issued receipt_of
 fifth = refl
 
 pub count65 : length with65 ≡ 64
@@ -47,7 +48,7 @@ pub record After65 : Type 0 where
   pub past : number with65 64 ≡ 0
 
 pub after65 : After65
-unfolding issued receipt_of decision_of number_of keep evict drop_first_rejected rejected is_rejected
+unfolding issued receipt_of decision_of keep evict drop_first_rejected rejected is_rejected
 after65 = record { first = refl; before = refl; after = refl; last = refl; past = refl }
 
 pub record After66 : Type 0 where
@@ -55,7 +56,7 @@ pub record After66 : Type 0 where
   pub last : number with66 63 ≡ 66
 
 pub after66 : After66
-unfolding issued receipt_of decision_of number_of keep evict drop_first_rejected rejected is_rejected
+unfolding issued receipt_of decision_of keep evict drop_first_rejected rejected is_rejected
 after66 = record { first = refl; last = refl }
 
 -- one more, in a ring that keeps a list

@@ -1,6 +1,5 @@
 -- Case G of 01: the receipts issued, of which number 5 is the only rejection.
-use Rattle.std.specs.Prelude.{ℕ, zero, suc, ◌≡◌, false, cond, List, [], ◌∷◌, ◌++◌, eqb, pos}
-use Rattle.std.proofs.Math.Option.{Option, none, some}
+use Rattle.std.specs.Prelude.{ℕ, zero, suc, ◌≡◌, false, cond, List, [], ◌∷◌, ◌++◌, eqb, pos, Option, Some, None}
 use Rattle.model.specs.declared.Decision.{Decision}
 use Rattle.model.specs.declared.Decision.TheVariants.{Executed, Rejected}
 use Rattle.model.specs.declared.Reason.TheVariants.{Ok}
@@ -51,9 +50,9 @@ with65 = keep 64 (issued 64) (receipt_of 65)
 abbrev pub with66 : List Receipt
 with66 = keep 64 with65 (receipt_of 66)
 
-unfoldable pub number_of : Option Receipt → ℕ
-number_of none = 0
-number_of (some r) = r.receipt_id
+abbrev pub number_of : Option Receipt → ℕ
+number_of None = 0
+number_of (Some r) = r.receipt_id
 
 -- a ring that keeps a list
 pub record Holds (ring : Ring) (l : List Receipt) : Type 0 where

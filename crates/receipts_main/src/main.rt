@@ -2,8 +2,7 @@
 // with no rejection left, the oldest. Each check is proved from what `receipts` promises, and made when the program runs.
 #![tactic(auto)]
 
-ghost use Rattle.std.specs.Prelude.{◌≡◌};
-ghost use Rattle.std.proofs.Math.ListN.{get_elem?};
+ghost use Rattle.std.specs.Prelude.{◌≡◌, slice_get};
 ghost use Rattle.receipts.specs.Rings.{Kept, receipts_of};
 ghost use Rattle.receipts_main.specs.CaseG.{decision_of, receipt_of, number_of, Holds, issued, with65, with66};
 
@@ -69,11 +68,9 @@ fn filled() -> Ring
 // The number of the receipt at a place from the oldest, or 0.
 fn number_at(ring: Ring, place: usize) -> u64
     requires { Kept ring }
-    ensures { result ≡ number_of (get_elem? (receipts_of ring) place) }
+    ensures { result ≡ number_of (slice_get (receipts_of ring) place) }
 {
-    let kept = receipts::receipt(ring, place);
-    let receipt = kept.receipt;
-    receipt.receipt_id
+    receipts::receipt(ring, place).map_or(0, |receipt| receipt.receipt_id)
 }
 
 // With number 65: a full ring drops its only rejection, number 5.

@@ -1,17 +1,15 @@
 -- The ring as the numbered receipts fill it. Assumes nothing.
 use Prim.Native.Nat.{ℕ, ◌+◌, ◌<◌}
-use mathlib.Core.Path.{◌≡◌, refl, sym, ap, ◌∙◌}
+use mathlib.Core.Path.{◌≡◌, refl, sym, ◌∙◌}
 use mathlib.Core.Bool.{Bool, true, false}
-use lib.ListN.{get_or, set, get_elem?}
+use lib.ListN.{get_or, set}
 use native.Mathlib.Numerals.{add-one}
 use Rattle.model.specs.declared.Receipt.{Receipt}
 use Rattle.rules.specs.Receipts.{is_rejected, rejected}
 use Rattle.receipts.specs.declared.Index.{Index}
 use Rattle.receipts.specs.declared.Pushed.{Pushed}
-use Rattle.receipts.specs.declared.KeptReceipt.{KeptReceipt}
-use Rattle.receipts.specs.Indexes.{Stores, Long, list_of, Opens, stored, Keeps, Pushes}
-use Rattle.receipts.specs.Rings.{kept_at}
-use Rattle.receipts_speed.specs.Pushes.{numbered_receipt, kept_after, oldest_of, Filled}
+use Rattle.receipts.specs.Indexes.{Stores, Long, Opens, stored, Keeps, Pushes}
+use Rattle.receipts_speed.specs.Pushes.{numbered_receipt, kept_after, Filled}
 
 pub none_yet : {kinds : ℕ} {i : Index} {st : Stores} → Opens i → Long st → Filled kinds 0 i st
 unfolding kept_after
@@ -37,14 +35,3 @@ module _ {kinds n : ℕ} {i : Index} {st : Stores} {b : Bool} {p : Pushed} {d : 
   pub one-other : b ≡ false
       → Filled kinds (n + 1) p.index (record { rejections = st.rejections; others = set st.others p.place p.slot; receipts = set st.receipts p.slot d })
   one-other t = rw t at one_more
-
-pub oldest-is : {kinds n m : ℕ} {i : Index} {st : Stores} {k : KeptReceipt}
-    → Filled kinds n i st
-    → n ≡ m
-    → k ≡ kept_at (get_elem? (list_of i st) 0)
-    → k.receipt.receipt_id ≡ oldest_of (kept_after kinds m)
-unfolding oldest_of
-oldest-is {kinds} f e q =
-    ap (λ (k : KeptReceipt). k.receipt.receipt_id) q
-    ∙ ap oldest_of f.list
-    ∙ ap (λ (k : ℕ). oldest_of (kept_after kinds k)) e

@@ -1,6 +1,5 @@
 -- The receipts that are pushed, and what the rule keeps of them.
-use Rattle.std.specs.Prelude.{ℕ, zero, suc, ◌/◌, ◌%◌, ◌^◌, cond, ◌≡◌, List, [], eqb}
-use Rattle.std.proofs.Math.ListN.{get_elem?}
+use Rattle.std.specs.Prelude.{ℕ, zero, suc, ◌/◌, ◌%◌, ◌^◌, cond, ◌≡◌, List, [], ◌∷◌, eqb}
 use Rattle.model.specs.Records.{no_receipt}
 use Rattle.model.specs.declared.Decision.{Decision}
 use Rattle.model.specs.declared.Decision.TheVariants.{Executed, Rejected}
@@ -8,7 +7,6 @@ use Rattle.model.specs.declared.Receipt.{Receipt}
 use Rattle.rules.specs.Receipts.{keep}
 use Rattle.receipts.specs.declared.Index.{Index}
 use Rattle.receipts.specs.Indexes.{Stores, Sound, list_of}
-use Rattle.receipts.specs.Rings.{kept_at}
 
 -- the kind of the receipt with a number
 abbrev pub decision_of : ℕ → ℕ → Decision
@@ -47,8 +45,9 @@ kept_after kinds zero = []
 kept_after kinds (suc n) = keep 64 (kept_after kinds n) (numbered_receipt n kinds)
 
 -- the number of the oldest; 0 where nothing is kept
-unfoldable pub oldest_of : List Receipt → ℕ
-oldest_of kept = (kept_at (get_elem? kept 0)).receipt.receipt_id
+abbrev pub oldest_of : List Receipt → ℕ
+oldest_of [] = 0
+oldest_of (r ∷ rs) = r.receipt_id
 
 -- an index over stores that keeps what the rule keeps of the receipts 0 to n - 1
 pub record Filled (kinds n : ℕ) (i : Index) (st : Stores) : Type 0 where

@@ -84,6 +84,5 @@ pub extern "C" fn receipts_speed_oldest(pushes: u64, kinds: u64) -> u64
         others: others,
         slots: slots,
     };
-    let kept = receipt(ring, 0);
-    kept.receipt.receipt_id
+    receipt(ring, 0).map_or(0, |oldest| oldest.receipt_id)
 }

@@ -10,6 +10,9 @@ use native.Mathlib.Omega.{arith}
 use lib.Dec.{ltb}
 use lib.ListN.{length, get_or, get_elem?, take, length-map, get_or-eq_default}
 use lib.Seq.{get_or-take, length-take-le}
+use Rattle.std.specs.List.{slice_get}
+use Rattle.std.specs.Prelude.{Some, None}
+use Rattle.std.specs.Prelude as Prelude
 use Rattle.model.specs.declared.Capability.{Capability}
 use Rattle.model.specs.declared.Lease.{Lease}
 use Rattle.model.specs.declared.Presence.{Presence}
@@ -18,7 +21,7 @@ use Rattle.model.specs.declared.Reason.{Reason}
 use Rattle.model.specs.declared.Receipt.{Receipt}
 use Rattle.model.specs.Records.{no_lease, no_capability, no_receipt}
 use Rattle.receipts.specs.Indexes.{Points}
-use Rattle.receipts.specs.declared.Found.{Found}
+use Rattle.receipts.specs.declared.Place.{Place}
 use Rattle.receipts.proofs.Circles.{lt-or-ge}
 use Rattle.receipts.proofs.Promises.{list_length}
 use Rattle.rules.specs.Admission.{is_some}
@@ -302,6 +305,16 @@ receipt-there : (t : Bool) (slot : ℕ) (r : Receipt) → (receipt_at t slot r).
 receipt-there true slot r e = receipt-there-if (ltb slot 64) r e
 receipt-there false slot r e = refl
 
+-- an element of a list, in the rules' words
+abbrev option_of : {A : Type 0} → Prelude.Option A → Option A
+option_of None = none
+option_of (Some x) = some x
+
+element : {A : Type 0} (xs : List A) (k : ℕ) → get_elem? xs k ≡ option_of (slice_get xs k)
+element [] k = refl
+element (x ∷ xs) zero = refl
+element (x ∷ xs) (suc k) = element xs k
+
 module _ (rt : Runtime) (k : Kept rt) (index : ℕ) where
   -- the slot, by where the receipt is noted
   abbrev slot_for : ℕ → ℕ → ℕ
@@ -310,29 +323,29 @@ module _ (rt : Runtime) (k : Kept rt) (index : ℕ) where
   abbrev FoundAt : ℕ → Type 0
   FoundAt s = (s < 65) × (get_elem? (receipts_in rt) index ≡ cond (ltb s 64) (some (get_or rt.slots s no_receipt)) none)
 
-  at_slot : (s : ℕ) → s < 64 → get_elem? (receipts_in rt) index ≡ some (get_or (take 64 rt.slots) s no_receipt) → FoundAt s
-  at_slot s l e = (omega (arith, l), e ∙ rw (lt-ltb s 64 l, get_or-take 64 rt.slots s no_receipt l))
+  at_slot : (s : ℕ) → s < 64 → slice_get (receipts_in rt) index ≡ Some (get_or (take 64 rt.slots) s no_receipt) → FoundAt s
+  at_slot s l e = (omega (arith, l), element (receipts_in rt) index ∙ ap option_of e ∙ rw (lt-ltb s 64 l, get_or-take 64 rt.slots s no_receipt l))
 
-  found-slot : (f : Found) → Points rt.places.index index f → FoundAt (slot_for (rejected_by f) (others_by f))
-  found-slot (Found.Rejected p) m =
+  found-slot : (f : Prelude.Option Place) → Points rt.places.index index f → FoundAt (slot_for (rejected_by f) (others_by f))
+  found-slot (Some (Place.Rejected p)) m =
       let st = stores_of rt.places rt.slots in
       let s = k.placed.receipts in
       subst FoundAt (get_or-take 64 rt.places.rejected p 0 m.inside ∙ rw (lt-ltb p 64 m.inside)) (at_slot _ (m.below st s) (m.reads st s))
-  found-slot (Found.Other p) m =
+  found-slot (Some (Place.Other p)) m =
       let st = stores_of rt.places rt.slots in
       let s = k.placed.receipts in
       subst FoundAt (get_or-take 64 rt.places.others p 0 m.inside ∙ rw (lt-ltb p 64 m.inside)) (at_slot _ (m.below st s) (m.reads st s))
-  found-slot Found.Nothing m = (omega arith, m.reads (stores_of rt.places rt.slots) k.placed.receipts)
+  found-slot None m = (omega arith, element (receipts_in rt) index ∙ ap option_of (m.reads (stores_of rt.places rt.slots) k.placed.receipts))
 
-  rejected-low : (f : Found) → Points rt.places.index index f → rejected_by f < 65
-  rejected-low (Found.Rejected p) m = omega (arith, m.inside)
-  rejected-low (Found.Other p) m = omega arith
-  rejected-low Found.Nothing m = omega arith
+  rejected-low : (f : Prelude.Option Place) → Points rt.places.index index f → rejected_by f < 65
+  rejected-low (Some (Place.Rejected p)) m = omega (arith, m.inside)
+  rejected-low (Some (Place.Other p)) m = omega arith
+  rejected-low None m = omega arith
 
-  others-low : (f : Found) → Points rt.places.index index f → others_by f < 65
-  others-low (Found.Rejected p) m = omega arith
-  others-low (Found.Other p) m = omega (arith, m.inside)
-  others-low Found.Nothing m = omega arith
+  others-low : (f : Prelude.Option Place) → Points rt.places.index index f → others_by f < 65
+  others-low (Some (Place.Rejected p)) m = omega arith
+  others-low (Some (Place.Other p)) m = omega (arith, m.inside)
+  others-low None m = omega arith
 
   module _ (n : Noted) (e : NotedAs rt.places.index index n) where
     abbrev noted_slot : ℕ

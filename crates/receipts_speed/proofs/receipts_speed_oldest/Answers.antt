@@ -1,7 +1,7 @@
 use native.Mathlib.Omega.{arith}
 use mathlib.Core.Path.{refl}
 use borrow.Author.Rules.{rules}
-use Rattle.receipts_speed.proofs.Pushes.{none_yet, pushed-below, one-rejection, one-other, oldest-is}
+use Rattle.receipts_speed.proofs.Pushes.{none_yet, pushed-below, one-rejection, one-other}
 use Rattle.receipts_speed.proofs.receipts_speed_oldest.Goals.{then-is_rejection, else-is_rejection}
 use Rattle.receipts_speed.proofs.receipts_speed_oldest.Goals as goal
 
@@ -52,8 +52,3 @@ loop-id-preserved c =
         | else-is_rejection w ↦ rw (w.rejections-is, w.others-is) (one-other loop.invariant.1 n.ensures r.ensures p.ensures w.if-is_rejection.false)
       ],
     )
-
-pub returns : goal.returns
-returns c =
-    let loop = c.loop-id in
-    oldest-is loop.invariant.1 (omega arith) c.receipt-kept.ensures
