@@ -356,7 +356,7 @@ module _ (i : Index) (n : Numbered i) (at : ℕ) (h : at < count i) where
 
 -- a push into a ring -------------------------------------------------------------------------------------------------
 
-module _ (ring : Ring) (k : Kept ring) (r : Receipt) (kind : Bool) (e : kind ≡ is_rejected r.decision) (p : Pushed)
+module _ (ring : Ring) (r : Receipt) {kind : Bool} {p : Pushed} (k : Kept ring) (e : kind ≡ is_rejected r.decision)
     (m : Pushes ring.index kind (get_or ring.rejected ring.index.rejected.head 0) (get_or ring.others ring.index.others.head 0) p) where
   kept : Keeps ring.index (stores_of ring) kind p r
   unfolding rejected

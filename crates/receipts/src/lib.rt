@@ -205,6 +205,13 @@ pub fn place_of(index: Index, at: usize) -> Option<Place>
     }
 }
 
+#[tactic(auto, unfolding(rules::specs::Receipts::is_rejected))]
+pub fn is_rejected(decision: Decision) -> bool
+    ensures { result ≡ is_rejected decision }
+{
+    matches!(decision, Decision::Rejected)
+}
+
 #[derive(Clone, Copy)]
 pub struct Ring {
     pub index: Index,
@@ -214,88 +221,57 @@ pub struct Ring {
     pub slots: [Receipt; 64],
 }
 
-pub fn is_rejected(decision: Decision) -> bool
-    ensures { result ≡ is_rejected decision }
-{
-    match decision {
-        Decision::Executed => false,
-        Decision::Rejected => true,
-        Decision::Fallback => false,
-        Decision::Control => false,
-        Decision::Failed => false,
+impl Ring {
+    // A ring that keeps no receipt.
+    pub fn empty() -> Self
+        ensures { Starts result }
+    {
+        Self {
+            index: Index::empty(),
+            rejected: [0; 64],
+            others: [0; 64],
+            slots: [Receipt::blank(); 64],
+        }
     }
-}
 
-// A ring that keeps no receipt.
-pub fn empty() -> Ring
-    ensures { Starts result }
-{
-    let index = Index::empty();
-    let blank = Receipt::blank();
-    let slots = [blank; 64];
-    Ring {
-        index: index,
-        rejected: [0u8; 64],
-        others: [0u8; 64],
-        slots: slots,
+    // One more receipt.
+    pub fn record(&mut self, receipt: Receipt)
+        requires { Kept self.old }
+        ensures { Records self.old receipt self.new }
+    {
+        let rejection = is_rejected(receipt.decision);
+        let pushed = push(
+            self.index,
+            rejection,
+            self.rejected[self.index.rejected.head],
+            self.others[self.index.others.head],
+        );
+        self.index = pushed.index;
+        self.slots[pushed.slot] = receipt;
+        if rejection {
+            self.rejected[pushed.place] = pushed.slot as u8;
+        } else {
+            self.others[pushed.place] = pushed.slot as u8;
+        }
     }
-}
 
-// One more receipt.
-pub fn record(ring: Ring, receipt: Receipt) -> Ring
-    requires { Kept ring }
-    ensures { Records ring receipt result }
-{
-    let index = ring.index;
-    let mut rejected = ring.rejected;
-    let mut others = ring.others;
-    let mut slots = ring.slots;
-    let rejected_head = index.rejected.head;
-    let others_head = index.others.head;
-    let decision = receipt.decision;
-    let is_rejection = is_rejected(decision);
-    let pushed = push(
-        index,
-        is_rejection,
-        rejected[rejected_head],
-        others[others_head],
-    );
-    let next = pushed.index;
-    let slot = pushed.slot;
-    let place = pushed.place;
-    slots[slot] = receipt;
-    if is_rejection {
-        rejected[place] = slot as u8;
-    } else {
-        others[place] = slot as u8;
+    // How many receipts are kept.
+    pub fn count(&self) -> usize
+        requires { Kept self.now }
+        ensures { result ≡ length (receipts_of self.now) }
+    {
+        self.index.rejected.count + self.index.others.count
     }
-    Ring {
-        index: next,
-        rejected: rejected,
-        others: others,
-        slots: slots,
+
+    // The receipt at a place from the oldest, if there is one.
+    pub fn receipt(&self, index: usize) -> Option<Receipt>
+        requires { Kept self.now }
+        ensures { result ≡ slice_get (receipts_of self.now) index }
+    {
+        let slot = match place_of(self.index, index)? {
+            Place::Rejected(place) => self.rejected[place],
+            Place::Other(place) => self.others[place],
+        };
+        Some(self.slots[slot as usize])
     }
-}
-
-// How many receipts are kept.
-pub fn count(ring: Ring) -> usize
-    requires { Kept ring }
-    ensures { result ≡ length (receipts_of ring) }
-{
-    let index = ring.index;
-    let rejected = index.rejected;
-    let others = index.others;
-    rejected.count + others.count
-}
-
-// The receipt at a place from the oldest, if there is one.
-pub fn receipt(ring: Ring, index: usize) -> Option<Receipt>
-    requires { Kept ring }
-    ensures { result ≡ slice_get (receipts_of ring) index }
-{
-    let slot = match place_of(ring.index, index)? {
-        Place::Rejected(place) => ring.rejected[place],
-        Place::Other(place) => ring.others[place],
-    };
-    Some(ring.slots[slot as usize])
 }

@@ -1,12 +1,10 @@
 -- The receipts issued, kept one after another, and the numbers that are left at the capacity.
 -- Assumes nothing.
-use Prim.Native.Nat.{ℕ, zero, suc, ◌+◌, ◌<◌}
+use Prim.Native.Nat.{ℕ, zero, suc, ◌+◌, ◌≤◌}
 use native.Mathlib.Numerals.{add-one}
 use native.Mathlib.Omega.{arith}
 use mathlib.Core.Path.{◌≡◌, refl, ap, ◌∙◌}
-use mathlib.Core.Bool.{true}
 use mathlib.Core.List.{List, [], ◌∷◌}
-use lib.Dec.{ltb}
 use lib.ListN.{length, length-append}
 use borrow.Author.Tests.{lt-ltb}
 use Rattle.std.specs.List.{slice_get}
@@ -22,11 +20,9 @@ issued-length zero = refl
 issued-length (suc n) =
     length-append (issued n) (receipt_of (suc n) ∷ []) ∙ ap (λ (k : ℕ). k + 1) (issued-length n) ∙ add-one n
 
-pub issued-more : (n : ℕ) → n < 64 → keep 64 (issued n) (receipt_of (n + 1)) ≡ issued (n + 1)
+pub issued-more : (n m : ℕ) → n ≡ suc m → n ≤ 64 → keep 64 (issued m) (receipt_of n) ≡ issued n
 unfolding keep issued
-issued-more n h =
-    let t : ltb (length (issued n)) 64 ≡ true = lt-ltb (length (issued n)) 64 (omega (arith, issued-length n)) in
-    rw (add-one n, t)
+issued-more n m e h = rw (e, lt-ltb (length (issued m)) 64 (omega (arith, issued-length m)))
 
 -- the numbers left
 abbrev pub number : List Receipt → ℕ → ℕ
@@ -60,10 +56,9 @@ unfolding issued receipt_of decision_of keep evict drop_first_rejected rejected 
 after66 = record { first = refl; last = refl }
 
 -- one more, in a ring that keeps a list
-pub holds_more : (before after : Ring) (l : List Receipt) (n : ℕ) (r : Receipt) → Holds before l → r ≡ receipt_of n → Records before r after
-    → Holds after (keep 64 l (receipt_of n))
-holds_more before after l n r h e s = record { kept = s.kept; keeps = s.keeps ∙ rw (h.keeps, e) }
+pub holds_more : {before after : Ring} {l : List Receipt} {r s : Receipt} → Holds before l → r ≡ s → Records before r after → Holds after (keep 64 l s)
+holds_more h e s = record { kept = s.kept; keeps = s.keeps ∙ rw (h.keeps, e) }
 
 -- a check of the number at a place, in a ring that keeps a list
-pub shown : (ring : Ring) (l : List Receipt) (place n r : ℕ) → Holds ring l → number l place ≡ n → r ≡ number (receipts_of ring) place → r ≡ n
-shown ring l place n r h q e = e ∙ ap (λ (k : List Receipt). number k place) h.keeps ∙ q
+pub shown : {ring : Ring} {l : List Receipt} (place : ℕ) {n r : ℕ} → Holds ring l → number l place ≡ n → r ≡ number (receipts_of ring) place → r ≡ n
+shown place h q e = e ∙ ap (λ (k : List Receipt). number k place) h.keeps ∙ q

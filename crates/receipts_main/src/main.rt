@@ -55,59 +55,60 @@ fn numbered(number: u64) -> Receipt
 fn filled() -> Ring
     ensures { Holds result (issued 64) }
 {
-    let mut ring = receipts::empty();
-    let mut number = 0;
-    while number < 64 {
-        let next = numbered(number + 1);
-        ring = receipts::record(ring, next);
-        number += 1;
+    let mut ring = Ring::empty();
+    for number in 1..=64 {
+        ring.record(numbered(number));
     }
     ring
 }
 
 // The number of the receipt at a place from the oldest, or 0.
-fn number_at(ring: Ring, place: usize) -> u64
-    requires { Kept ring }
-    ensures { result ≡ number_of (slice_get (receipts_of ring) place) }
+fn number_at(ring: &Ring, place: usize) -> u64
+    requires { Kept ring.now }
+    ensures { result ≡ number_of (slice_get (receipts_of ring.now) place) }
 {
-    receipts::receipt(ring, place).map_or(0, |receipt| receipt.receipt_id)
+    ring.receipt(place).map_or(0, |receipt| receipt.receipt_id)
 }
 
 // With number 65: a full ring drops its only rejection, number 5.
 fn sixty_five() -> Ring
     ensures { Holds result with65 }
 {
-    receipts::record(filled(), numbered(65))
+    let mut ring = filled();
+    ring.record(numbered(65));
+    ring
 }
 
 // With number 66: no rejection is left, and the oldest goes.
 fn sixty_six() -> Ring
     ensures { Holds result with66 }
 {
-    receipts::record(sixty_five(), numbered(66))
+    let mut ring = sixty_five();
+    ring.record(numbered(66));
+    ring
 }
 
 fn main() -> ExitCode {
     let full = filled();
-    let fifth = number_at(full, 4) == 5;
+    let fifth = number_at(&full, 4) == 5;
     prove!(fifth);
     let next = sixty_five();
-    let full_again = receipts::count(next) == 64;
+    let full_again = next.count() == 64;
     prove!(full_again);
-    let first = number_at(next, 0) == 1;
+    let first = number_at(&next, 0) == 1;
     prove!(first);
-    let before = number_at(next, 3) == 4;
+    let before = number_at(&next, 3) == 4;
     prove!(before);
-    let after = number_at(next, 4) == 6;
+    let after = number_at(&next, 4) == 6;
     prove!(after);
-    let newest = number_at(next, 63) == 65;
+    let newest = number_at(&next, 63) == 65;
     prove!(newest);
-    let past = number_at(next, 64) == 0;
+    let past = number_at(&next, 64) == 0;
     prove!(past);
     let last = sixty_six();
-    let second = number_at(last, 0) == 2;
+    let second = number_at(&last, 0) == 2;
     prove!(second);
-    let end = number_at(last, 63) == 66;
+    let end = number_at(&last, 63) == 66;
     prove!(end);
     let of_next = full_again && first && before && after && newest && past;
     if fifth && of_next && second && end {

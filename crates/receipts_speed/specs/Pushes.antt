@@ -5,8 +5,8 @@ use Rattle.model.specs.declared.Decision.{Decision}
 use Rattle.model.specs.declared.Decision.TheVariants.{Executed, Rejected}
 use Rattle.model.specs.declared.Receipt.{Receipt}
 use Rattle.rules.specs.Receipts.{keep}
-use Rattle.receipts.specs.declared.Index.{Index}
-use Rattle.receipts.specs.Indexes.{Stores, Sound, list_of}
+use Rattle.receipts.specs.declared.Ring.{Ring}
+use Rattle.receipts.specs.Rings.{Kept, receipts_of}
 
 -- the kind of the receipt with a number
 abbrev pub decision_of : ℕ → ℕ → Decision
@@ -49,7 +49,7 @@ abbrev pub oldest_of : List Receipt → ℕ
 oldest_of [] = 0
 oldest_of (r ∷ rs) = r.receipt_id
 
--- an index over stores that keeps what the rule keeps of the receipts 0 to n - 1
-pub record Filled (kinds n : ℕ) (i : Index) (st : Stores) : Type 0 where
-  pub sound : Sound i st
-  pub list : list_of i st ≡ kept_after kinds n
+-- a ring that keeps what the rule keeps of the receipts 0 to n - 1
+pub record Filled (kinds n : ℕ) (ring : Ring) : Type 0 where
+  pub kept : Kept ring
+  pub keeps : receipts_of ring ≡ kept_after kinds n

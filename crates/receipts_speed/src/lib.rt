@@ -1,5 +1,5 @@
-// Pushes into the ring of receipts in a loop, as the runtime pushes them: the index by value, the slots and the slot numbers of the circles
-// in place. A static library that tools/speed times beside the Rust's `record`.
+// Pushes into the ring of receipts in a loop, in place, as the runtime pushes them. A static library that tools/speed times beside the
+// Rust's `record`.
 // Promises that the answer is the number of the oldest receipt that the rule of 01 keeps. Rests on `receipts`.
 #![tactic(auto)]
 
@@ -7,7 +7,7 @@ ghost use Rattle.std.specs.Prelude.{◌≡◌};
 ghost use Rattle.receipts_speed.specs.Pushes.{decision_of, numbered_receipt, kept_after, oldest_of};
 
 use model::{Decision, Reason, Receipt};
-use receipts::{Index, Ring, is_rejected, push, receipt};
+use receipts::Ring;
 
 // The receipt with a number is a rejection where the bit of `kinds` at that number, around 64, is set.
 fn decision_of(id: u64, kinds: u64) -> Decision
@@ -54,35 +54,9 @@ fn numbered(id: u64, kinds: u64) -> Receipt
 pub extern "C" fn receipts_speed_oldest(pushes: u64, kinds: u64) -> u64
     ensures { result ≡ oldest_of (kept_after kinds pushes) }
 {
-    let mut index = Index::empty();
-    let blank = Receipt::blank();
-    let mut slots = [blank; 64];
-    let mut rejections = [0u8; 64];
-    let mut others = [0u8; 64];
-    let mut id: u64 = 0;
-    while id < pushes {
-        let next = numbered(id, kinds);
-        let decision = next.decision;
-        let is_rejection = is_rejected(decision);
-        let front = index.rejected.head;
-        let other_front = index.others.head;
-        let pushed = push(index, is_rejection, rejections[front], others[other_front]);
-        let slot = pushed.slot;
-        let place = pushed.place;
-        slots[slot] = next;
-        if is_rejection {
-            rejections[place] = slot as u8;
-        } else {
-            others[place] = slot as u8;
-        }
-        index = pushed.index;
-        id += 1;
+    let mut ring = Ring::empty();
+    for id in 0..pushes {
+        ring.record(numbered(id, kinds));
     }
-    let ring = Ring {
-        index: index,
-        rejected: rejections,
-        others: others,
-        slots: slots,
-    };
-    receipt(ring, 0).map_or(0, |oldest| oldest.receipt_id)
+    ring.receipt(0).map_or(0, |oldest| oldest.receipt_id)
 }

@@ -1,7 +1,7 @@
 use mathlib.Core.Path.{sym}
 use Rattle.receipts.proofs.Promises.{list_length}
 use Rattle.receipts.specs.Rings.{stores_of}
-use Rattle.receipts.proofs.count.Goals as goal
+use Rattle.receipts.proofs.Ring.count.Goals as goal
 
 pub returns : goal.returns
-returns c = sym (list_length c.args.ring.index (stores_of c.args.ring) c.requires)
+returns c = sym (list_length c.args.self.now.index (stores_of c.args.self.now) c.requires)
