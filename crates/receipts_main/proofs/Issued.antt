@@ -12,7 +12,7 @@ use Rattle.model.specs.declared.Receipt.{Receipt}
 use Rattle.rules.specs.Receipts.{keep, evict, drop_first_rejected, rejected, is_rejected}
 use Rattle.receipts.specs.declared.Ring.{Ring}
 use Rattle.receipts.specs.Rings.{receipts_of, Records}
-use Rattle.receipts_main.specs.CaseG.{decision_of, receipt_of, issued, with65, with66, number_of, Holds}
+use Rattle.receipts_main.specs.CaseG.{receipt_of, issued, with65, with66, number_of, Holds}
 
 issued-length : (n : ℕ) → length (issued n) ≡ n
 unfolding issued
@@ -33,7 +33,7 @@ unfolding issued receipt_of
 fifth = refl
 
 pub count65 : length with65 ≡ 64
-unfolding issued receipt_of decision_of keep evict drop_first_rejected rejected is_rejected
+unfolding issued receipt_of keep evict drop_first_rejected rejected is_rejected
 count65 = refl
 
 pub record After65 : Type 0 where
@@ -44,7 +44,7 @@ pub record After65 : Type 0 where
   pub past : number with65 64 ≡ 0
 
 pub after65 : After65
-unfolding issued receipt_of decision_of keep evict drop_first_rejected rejected is_rejected
+unfolding issued receipt_of keep evict drop_first_rejected rejected is_rejected
 after65 = record { first = refl; before = refl; after = refl; last = refl; past = refl }
 
 pub record After66 : Type 0 where
@@ -52,7 +52,7 @@ pub record After66 : Type 0 where
   pub last : number with66 63 ≡ 66
 
 pub after66 : After66
-unfolding issued receipt_of decision_of keep evict drop_first_rejected rejected is_rejected
+unfolding issued receipt_of keep evict drop_first_rejected rejected is_rejected
 after66 = record { first = refl; last = refl }
 
 -- one more, in a ring that keeps a list

@@ -1,42 +1,18 @@
 -- Case G of 01: the receipts issued, of which number 5 is the only rejection.
-use Rattle.std.specs.Prelude.{ℕ, zero, suc, ◌≡◌, false, cond, List, [], ◌∷◌, ◌++◌, eqb, pos, Option, Some, None}
+use Rattle.std.specs.Prelude.{ℕ, zero, suc, ◌≡◌, cond, List, [], ◌∷◌, ◌++◌, eqb, Option, Some, None}
+use Rattle.model.specs.Records.{no_receipt}
 use Rattle.model.specs.declared.Decision.{Decision}
 use Rattle.model.specs.declared.Decision.TheVariants.{Executed, Rejected}
-use Rattle.model.specs.declared.Reason.TheVariants.{Ok}
 use Rattle.model.specs.declared.Receipt.{Receipt}
 use Rattle.rules.specs.Receipts.{keep}
 use Rattle.receipts.specs.declared.Ring.{Ring}
 use Rattle.receipts.specs.Rings.{Kept, receipts_of}
 
-unfoldable pub decision_of : ℕ → Decision
+abbrev pub decision_of : ℕ → Decision
 decision_of number = cond (eqb number 5) Rejected Executed
 
 unfoldable pub receipt_of : ℕ → Receipt
-receipt_of number =
-    record {
-      boot_id = 1;
-      principal = 0;
-      safety_flags = 0;
-      receipt_id = number;
-      action_id = 0;
-      sequence = 0;
-      capability = 0;
-      resource = 0;
-      lease_id = 0;
-      decision = decision_of number;
-      reason = Ok;
-      epoch = 0;
-      received_at = 0;
-      admitted_at = 0;
-      executed_at = 0;
-      requested = pos 0 ∷ pos 0 ∷ [];
-      observed = pos 0 ∷ pos 0 ∷ [];
-      pre_state = 0;
-      post_state = 0;
-      original_receipt = 0;
-      dispatched = false;
-      observed_valid = false;
-    }
+receipt_of number = record no_receipt { boot_id = 1; receipt_id = number; decision = decision_of number }
 
 -- the receipts from 1 to a number
 unfoldable pub issued : ℕ → List Receipt

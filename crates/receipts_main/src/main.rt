@@ -6,7 +6,7 @@ ghost use Rattle.std.specs.Prelude.{◌≡◌, slice_get};
 ghost use Rattle.receipts.specs.Rings.{Kept, receipts_of};
 ghost use Rattle.receipts_main.specs.CaseG.{decision_of, receipt_of, number_of, Holds, issued, with65, with66};
 
-use model::{Decision, Reason, Receipt};
+use model::{Decision, Receipt};
 use receipts::Ring;
 use std::process::ExitCode;
 
@@ -24,30 +24,11 @@ fn decision(number: u64) -> Decision
 fn numbered(number: u64) -> Receipt
     ensures { result ≡ receipt_of number }
 {
-    let decision = decision(number);
     Receipt {
         boot_id: 1,
-        principal: 0,
-        safety_flags: 0,
         receipt_id: number,
-        action_id: 0,
-        sequence: 0,
-        capability: 0,
-        resource: 0,
-        lease_id: 0,
-        decision: decision,
-        reason: Reason::Ok,
-        epoch: 0,
-        received_at: 0,
-        admitted_at: 0,
-        executed_at: 0,
-        requested: [0i32; 2],
-        observed: [0i32; 2],
-        pre_state: 0,
-        post_state: 0,
-        original_receipt: 0,
-        dispatched: false,
-        observed_valid: false,
+        decision: decision(number),
+        ..Receipt::blank()
     }
 }
 

@@ -13,31 +13,7 @@ abbrev pub decision_of : ℕ → ℕ → Decision
 decision_of id kinds = cond (eqb ((kinds / 2 ^ (id % 64)) % 2) 1) Rejected Executed
 
 unfoldable pub numbered_receipt : ℕ → ℕ → Receipt
-numbered_receipt id kinds =
-    record {
-      boot_id = no_receipt.boot_id;
-      principal = no_receipt.principal;
-      safety_flags = no_receipt.safety_flags;
-      receipt_id = id;
-      action_id = no_receipt.action_id;
-      sequence = no_receipt.sequence;
-      capability = no_receipt.capability;
-      resource = no_receipt.resource;
-      lease_id = no_receipt.lease_id;
-      decision = decision_of id kinds;
-      reason = no_receipt.reason;
-      epoch = no_receipt.epoch;
-      received_at = no_receipt.received_at;
-      admitted_at = no_receipt.admitted_at;
-      executed_at = no_receipt.executed_at;
-      requested = no_receipt.requested;
-      observed = no_receipt.observed;
-      pre_state = no_receipt.pre_state;
-      post_state = no_receipt.post_state;
-      original_receipt = no_receipt.original_receipt;
-      dispatched = no_receipt.dispatched;
-      observed_valid = no_receipt.observed_valid;
-    }
+numbered_receipt id kinds = record no_receipt { receipt_id = id; decision = decision_of id kinds }
 
 -- what the ring keeps of the receipts 0 to n - 1
 unfoldable pub kept_after : ℕ → ℕ → List Receipt

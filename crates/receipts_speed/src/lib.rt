@@ -6,7 +6,7 @@
 ghost use Rattle.std.specs.Prelude.{◌≡◌};
 ghost use Rattle.receipts_speed.specs.Pushes.{decision_of, numbered_receipt, kept_after, oldest_of};
 
-use model::{Decision, Reason, Receipt};
+use model::{Decision, Receipt};
 use receipts::Ring;
 
 // The receipt with a number is a rejection where the bit of `kinds` at that number, around 64, is set.
@@ -24,28 +24,9 @@ fn numbered(id: u64, kinds: u64) -> Receipt
     ensures { result ≡ numbered_receipt id kinds }
 {
     Receipt {
-        boot_id: 0,
-        principal: 0,
-        safety_flags: 0,
         receipt_id: id,
-        action_id: 0,
-        sequence: 0,
-        capability: 0,
-        resource: 0,
-        lease_id: 0,
         decision: decision_of(id, kinds),
-        reason: Reason::Ok,
-        epoch: 0,
-        received_at: 0,
-        admitted_at: 0,
-        executed_at: 0,
-        requested: [0i32; 2],
-        observed: [0i32; 2],
-        pre_state: 0,
-        post_state: 0,
-        original_receipt: 0,
-        dispatched: false,
-        observed_valid: false,
+        ..Receipt::blank()
     }
 }
 

@@ -3,4 +3,4 @@ use Rattle.receipts_main.proofs.numbered.Goals as goal
 
 pub returns : goal.returns
 unfolding receipt_of
-returns c = rw c.decision-decision.ensures
+returns c = rw (c.decision.ensures, c.blank.ensures)
