@@ -1,14 +1,13 @@
 -- The ring as a list: the slots from the cursor backwards, around, and the entries that they hold.
-use Rattle.std.specs.Prelude.{ℕ, zero, suc, Bool, false, List, [], ◌∷◌, ◌++◌, reverse, take, drop}
-use Rattle.std.proofs.Math.Option.{Option, some, none}
+use Rattle.std.specs.Prelude.{ℕ, zero, suc, Bool, false, List, [], ◌∷◌, ◌++◌, reverse, take, drop, Option, Some, None}
+use Rattle.std.proofs.Math.Option.{some, none}
+use Rattle.std.proofs.Math.Option as maybe
 use Rattle.model.specs.declared.Presence.TheVariants.{Absent, Present}
 use Rattle.model.specs.declared.Presence.{Presence}
 use Rattle.model.specs.declared.Replay.{Replay}
 use Rattle.model.specs.declared.ReplaySlot.{ReplaySlot}
 use Rattle.model.specs.Records.{no_replay}
 use Rattle.replay.specs.declared.ReplayRing.{ReplayRing}
-use Rattle.replay.specs.declared.FoundReceipt.{FoundReceipt}
-use Rattle.replay.specs.declared.FoundReceipt.TheVariants.{At, Nothing}
 -- what a search is held to, passed on to those who search
 unfoldable pub use Rattle.rules.specs.Admission.{is_entry, find_entry}
 
@@ -50,7 +49,7 @@ hit_in owner action Present e = is_entry owner action e
 abbrev pub is_hit : ℕ → ℕ → ReplaySlot → Bool
 is_hit owner action s = hit_in owner action s.presence s.replay
 
--- what a search answers
-unfoldable pub receipt_of : Option Replay → FoundReceipt
-receipt_of none = Nothing
-receipt_of (some e) = At e.receipt
+-- what a search answers: the receipt number of the entry found
+abbrev pub receipt_of : maybe.Option Replay → Option ℕ
+receipt_of none = None
+receipt_of (some e) = Some e.receipt

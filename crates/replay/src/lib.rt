@@ -17,13 +17,6 @@ pub struct ReplayRing {
     pub cursor: usize,
 }
 
-// A search's answer: the receipt number, or nothing.
-#[derive(Clone, Copy)]
-pub enum FoundReceipt {
-    At(u64),
-    Nothing,
-}
-
 // Whether a slot holds the entry of this owner and action id.
 fn is_hit(slot: ReplaySlot, owner: u64, action_id: u64) -> bool
     ensures { result ≡ is_hit owner action_id slot }
@@ -63,21 +56,17 @@ impl ReplayRing {
     }
 
     // The receipt number of the newest entry with this owner and action id.
-    pub fn find(self, owner: u64, action_id: u64) -> FoundReceipt
+    pub fn find(self, owner: u64, action_id: u64) -> Option<u64>
         requires { Sound self }
         ensures { result ≡ receipt_of (find_entry owner action_id (list_of self)) }
     {
         let cursor = self.cursor;
-        let mut i = 0;
-        while i < 32 {
-            let at = (cursor + 31 - i) % 32;
-            let slot = self.entries[at];
+        for i in 0..32 {
+            let slot = self.entries[(cursor + 31 - i) % 32];
             if is_hit(slot, owner, action_id) {
-                let entry = slot.replay;
-                return FoundReceipt::At(entry.receipt);
+                return Some(slot.replay.receipt);
             }
-            i += 1;
         }
-        FoundReceipt::Nothing
+        None
     }
 }

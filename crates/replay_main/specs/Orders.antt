@@ -2,8 +2,6 @@
 use Rattle.std.specs.Prelude.{ℕ, zero, suc, ◌+◌, ◌≡◌, List, [], ◌∷◌, take}
 use Rattle.model.specs.declared.Replay.{Replay}
 use Rattle.replay.specs.declared.ReplayRing.{ReplayRing}
-use Rattle.replay.specs.declared.FoundReceipt.{FoundReceipt}
-use Rattle.replay.specs.declared.FoundReceipt.TheVariants.{At, Nothing}
 use Rattle.replay.specs.Ring.{list_of}
 use Rattle.replay.specs.Promises.{Sound}
 
@@ -20,7 +18,3 @@ orders (suc n) = order (suc n) ∷ orders n
 pub record Filled (n : ℕ) (ring : ReplayRing) : Type 0 where
   pub list : list_of ring ≡ take 32 (orders n)
   pub sound : Sound ring
-
-abbrev pub number_of : FoundReceipt → ℕ
-number_of (At receipt) = receipt
-number_of Nothing = 0

@@ -3,10 +3,10 @@
 #![tactic(auto)]
 
 ghost use Rattle.std.specs.Prelude.{◌≡◌};
-ghost use Rattle.replay_main.specs.Orders.{Filled, number_of};
+ghost use Rattle.replay_main.specs.Orders.{Filled};
 
 use model::Replay;
-use replay::{FoundReceipt, ReplayRing};
+use replay::ReplayRing;
 use std::process::ExitCode;
 
 // The ring after the orders 1 to `count`.
@@ -14,10 +14,8 @@ fn filled(count: u32) -> ReplayRing
     ensures { Filled count result }
 {
     let mut ring = ReplayRing::empty();
-    let last = count as u64;
-    let mut id: u64 = 0;
-    while id < last {
-        id += 1;
+    let last = u64::from(count);
+    for id in 1..=last {
         ring = ring.push(Replay {
             owner: 7,
             action_id: id,
@@ -27,23 +25,13 @@ fn filled(count: u32) -> ReplayRing
     ring
 }
 
-// A search's answer as a number: 0 where nothing was found.
-fn number(found: FoundReceipt) -> u64
-    ensures { result ≡ number_of found }
-{
-    match found {
-        FoundReceipt::At(receipt) => receipt,
-        FoundReceipt::Nothing => 0,
-    }
-}
-
 fn main() -> ExitCode {
     let ring = filled(33);
-    let first = number(ring.find(7, 1)) == 0;
+    let first = ring.find(7, 1).unwrap_or(0) == 0;
     prove!(first);
-    let second = number(ring.find(7, 2)) == 102;
+    let second = ring.find(7, 2).unwrap_or(0) == 102;
     prove!(second);
-    let last = number(ring.find(7, 33)) == 133;
+    let last = ring.find(7, 33).unwrap_or(0) == 133;
     prove!(last);
     if first && second && last {
         ExitCode::SUCCESS

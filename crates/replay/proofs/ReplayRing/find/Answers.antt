@@ -1,4 +1,4 @@
-use mathlib.Core.Path.{◌≡◌, refl, sym, ap, ◌∙◌}
+use mathlib.Core.Path.{◌≡◌, sym, ap, ◌∙◌}
 use borrow.Author.Rules.{rules}
 use lib.ListN.{length}
 use Rattle.replay.specs.Ring.{receipt_of}
@@ -6,11 +6,7 @@ use Rattle.replay.proofs.Entries.{length-mapped}
 use Rattle.replay.proofs.Search.{hit, miss, over}
 use Rattle.replay.proofs.ReplayRing.find.Goals as goal
 
-pub loop-i-init : goal.loop-i-init
-loop-i-init c = refl
-
 pub returns-then-is_hit : goal.returns-then-is_hit
-unfolding receipt_of
 returns-then-is_hit c =
     let s = c.args.self in
     let l = c.loop-i in
@@ -27,7 +23,6 @@ loop-i-preserved c =
     l.invariant ∙ miss _ _ 31 s.entries n s.cursor (search rules) l.i (search rules) e
 
 pub returns : goal.returns
-unfolding receipt_of
 returns c =
     let s = c.args.self in
     let l = c.loop-i in

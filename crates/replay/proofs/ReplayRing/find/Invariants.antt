@@ -1,4 +1,3 @@
-use Prim.Native.Nat.{◌-◌}
 use mathlib.Core.Path.{◌≡◌}
 use lib.ListN.{drop}
 use Rattle.rules.specs.Admission.{find_entry}
@@ -8,6 +7,3 @@ use Rattle.replay.proofs.ReplayRing.find.Given as goal
 -- what is to be found stands in the slots that are left
 abbrev pub invariant-loop-i : goal.invariant-loop-i
 invariant-loop-i l = find_entry l.owner l.action_id (list_of l.self) ≡ find_entry l.owner l.action_id (entries_of (drop l.i (slots_of l.self)))
-
-abbrev pub decreases-loop-i : goal.decreases-loop-i
-decreases-loop-i l = 32 - l.i
