@@ -1,4 +1,4 @@
--- The promises of `Index::empty`, `free`, `push`, `place_of`, `receipt` and `record`, from the steps at 64.
+-- The promises of `Index::empty`, `free`, `push`, `place_of` and `Ring::record`, from the steps at 64.
 -- Assumes nothing.
 use Prim.Native.Nat.{ℕ, ◌+◌, ◌-◌, ◌*◌, ◌/◌, ◌%◌, ◌^◌, ◌<◌, ◌≤◌}
 use Prim.Native.Nat.{zero-le}
@@ -10,7 +10,6 @@ use mathlib.Core.List.{List, [], ◌∷◌, ◌++◌, map, map-append}
 use lib.Count.{ones}
 use lib.Dec.{ltb}
 use lib.ListN.{length, get_or, set, take, length-set, length-map}
-use lib.Pow.{pow_mono}
 use lib.Seq.{get_or-set_same}
 use borrow.Author.Tests.{lt-ltb, le-ltb, eq-eqb, ne_eqb}
 use Rattle.std.specs.List.{slice_get}
@@ -213,9 +212,6 @@ module _ (i : Index) (a b : ℕ) (f : Freed) (m : Frees i a b f) where
       inside = inside;
       keeps = λ st s q r h. record { below = slot-inside st s q r h; sound = stays-sound st s q r h; list = keeps-rule st s q r h };
     }
-
-  pub kinds-fit : f.index.kinds * 2 + 1 < 2 ^ 64
-  kinds-fit = omega (arith, m.numbered.counted.small, pow_mono {i = count f.index} {j = 63} (omega (arith, m.below)))
 
   abbrev rejections : Circle
   rejections = f.index.rejected

@@ -1,15 +1,8 @@
-use native.Mathlib.Omega.{arith}
-use Rattle.receipts.proofs.Promises.{older-le, older-rejections, points_none, points-rejection, points-other}
+use Rattle.receipts.proofs.Promises.{older-le, points_none, points-rejection, points-other}
 use Rattle.receipts.proofs.place_of.Goals as goal
 
 pub returns-then-count-at : goal.returns-then-count-at
 returns-then-count-at c = points_none c.args.index c.args.at c.if-count-at.true
-
-pub overflow_cast-older : goal.overflow_cast-older
-overflow_cast-older c = omega (arith, c.requires.within, older-le c.args.index c.requires c.args.at c.if-count-at.false)
-
-pub at-requires : goal.at-requires
-at-requires c = (c.requires.rejections, omega (arith, c.requires.within, older-rejections c.args.index c.requires c.args.at c.if-count-at.false c.if-upto-eq1.true))
 
 pub overflow_sub-at : goal.overflow_sub-at
 overflow_sub-at c = older-le c.args.index c.requires c.args.at c.if-count-at.false
