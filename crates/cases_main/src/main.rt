@@ -2,98 +2,64 @@
 // examples/cases.life and `stdout` from what the Rust original answers (docs/WIRE.md).
 #![tactic(auto)]
 
-ghost use Rattle.std.specs.Prelude.{◌<◌, ◌≤◌, length, IfOk};
-
-use std::io;
 use std::io::Read;
+use std::{fmt, io};
 
 // What an output record says.
-fn print_kind(rt: &HostRuntime, kind: u64) -> io::Result<()> {
+fn kind_name(kind: u32) -> &'static str {
     match kind {
-        1 => print!(rt; "listed"),
-        2 => print!(rt; "started"),
-        3 => print!(rt; "start refused"),
-        16 => print!(rt; "  observe"),
-        17 => print!(rt; "  execute"),
-        18 => print!(rt; "  fallback"),
-        19 => print!(rt; "  record"),
-        32 => print!(rt; "returned"),
-        33 => print!(rt; "polled"),
-        34 => print!(rt; "succeeded"),
-        35 => print!(rt; "leased"),
-        36 => print!(rt; "refused"),
-        37 => print!(rt; "settled"),
-        54 => print!(rt; "    snapshot"),
-        57 => print!(rt; "    receipt"),
-        _ => print!(rt; "other"),
+        1 => "listed",
+        2 => "started",
+        3 => "start refused",
+        16 => "  observe",
+        17 => "  execute",
+        18 => "  fallback",
+        19 => "  record",
+        32 => "returned",
+        33 => "polled",
+        34 => "succeeded",
+        35 => "leased",
+        36 => "refused",
+        37 => "settled",
+        54 => "    snapshot",
+        57 => "    receipt",
+        _ => "other",
     }
 }
 
-fn wide(byte: u8) -> u64 {
-    byte as u64
+// The low half of a word: no number of the cases is above it.
+fn low_half(word: &[u8]) -> u32 {
+    word.first_chunk::<4>()
+        .map_or(0, |bytes| u32::from_le_bytes(*bytes))
 }
 
-fn byte_at(bytes: &[u8], at: usize) -> u64 {
-    if at < bytes.len() {
-        return wide(bytes[at]);
+// The bytes of an output record. Its line: the kind, then its words from the second on.
+#[derive(Drop)]
+struct Record<'a>(&'a [u8]);
+
+impl<'a> fmt::Display for Record<'a> {
+    fn fmt<W: fmt::Write>(&self, f: &mut fmt::Formatter<W>) -> fmt::Result {
+        f.write_str(kind_name(low_half(self.0)))?;
+        for word in self.0.chunks_exact(8).skip(1) {
+            let number = low_half(word);
+            write!(f, " {number}")?;
+        }
+        Ok(())
     }
-    0
-}
-
-// The low half of the word at a place: no number of the cases is above it.
-fn word_at(bytes: &[u8], at: usize) -> u64
-    requires { at < 1000000000 }
-{
-    let low = byte_at(bytes, at) % 256 + 256 * (byte_at(bytes, at + 1) % 256);
-    let high = byte_at(bytes, at + 2) % 256 + 256 * (byte_at(bytes, at + 3) % 256);
-    low + 65536 * high
-}
-
-// A line: the kind, then its words from the second on.
-fn print_record(rt: &HostRuntime, bytes: &[u8], at: usize) -> io::Result<()>
-    requires { at < 1000000 }
-{
-    print_kind(rt, word_at(bytes, at))?;
-    let mut i: usize = 1;
-    while i < 26 {
-        let word = word_at(bytes, at + 8 * i);
-        print!(rt; " {word}")?;
-        i += 1;
-    }
-    println!(rt;)
 }
 
 // Runs the lives and prints the answers.
 fn run(rt: &HostRuntime, input: &[u8], output: &mut [u8]) -> io::Result<()> {
     let written = wire::rolthai_run(input, output);
-    let mut i: usize = 0;
-    while i < 1024 {
-        if 208 * i < written {
-            print_record(rt, output, 208 * i)?;
-        }
-        i += 1;
+    for record in output[..written].chunks_exact(208) {
+        println!(rt; "{}", Record(record))?;
     }
     Ok(())
 }
 
-// Reads until there is no more room, or nothing more to read; how many bytes there are then.
-fn read_full<R: Read>(input: &mut R, buffer: &mut [u8]) -> io::Result<usize>
-    ensures { IfOk result (λ n. n ≤ length buffer.new) }
-{
-    let mut n = 0;
-    while n < buffer.len() {
-        let count = input.read(&mut buffer[n..])?;
-        if count == 0 {
-            return Ok(n);
-        }
-        n += count;
-    }
-    Ok(n)
-}
-
 fn main(rt: HostRuntime) -> io::Result<()> {
-    let mut input = [0u8; 131072];
+    let mut input = Vec::new(rt.alloc());
+    rt.stdin().take(131072).read_to_end(&mut input)?;
     let mut output = [0u8; 212992];
-    let length = read_full(&mut rt.stdin(), &mut input)?;
-    run(&rt, &input[..length], &mut output)
+    run(&rt, &input, &mut output)
 }
