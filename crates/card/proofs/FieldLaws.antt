@@ -2,7 +2,8 @@
 use Prim.Native.Nat.{ℕ, zero, suc, ◌+◌, ◌*◌, ◌/◌, ◌%◌, ◌^◌, ◌<◌, ◌≤◌}
 use mathlib.Core.Bool.{Bool, true, false, ◌&&◌, cond}
 use mathlib.Core.List.{List, [], ◌∷◌, ◌++◌}
-use mathlib.Core.Option.{Option, some, none, none-ne-some, some-injective}
+use Rattle.std.specs.Prelude.{Option, Some, None}
+use Rattle.std.proofs.lemmas.Option.{none-some, same_Some}
 use mathlib.Core.Path.{◌≡◌, refl, sym, subst}
 use native.Mathlib.Nat.{one-le-pow, pow-succ'}
 use native.Mathlib.Omega.{arith}
@@ -74,7 +75,7 @@ half-set : (m : ℕ) → (1 + 2 * m) / 2 ≡ m
 half-set m = omega arith
 
 -- a field whose bit stands, at the front of the bytes
-wide-there : (w n : ℕ) (t : List ℕ) → suc n < 256 ^ suc w → field_in true (suc w) (little_end (suc w) (suc n) ++ t) ≡ some (suc n)
+wide-there : (w n : ℕ) (t : List ℕ) → suc n < 256 ^ suc w → field_in true (suc w) (little_end (suc w) (suc n) ++ t) ≡ Some (suc n)
 unfolding field_in stands
 wide-there w n t h =
     let bs = little_end (suc w) (suc n) in
@@ -82,12 +83,12 @@ wide-there w n t h =
     let l : suc w ≤ length (bs ++ t) = omega (arith, length-append bs t, length-little_end (suc w) (suc n)) in
     rw (e, number-bytes (suc w) (suc n) h, le-leb (suc w) (length (bs ++ t)) l)
 
-field-there : (w n : ℕ) (t : List ℕ) → Within w (suc n) → field_in true w (little_end w (suc n) ++ t) ≡ some (suc n)
+field-there : (w n : ℕ) (t : List ℕ) → Within w (suc n) → field_in true w (little_end w (suc n) ++ t) ≡ Some (suc n)
 unfolding field_in
 field-there zero n t h = let e : n ≡ 0 = omega arith in rw e
 field-there (suc w) n t h = wide-there w n t h
 
-pub fields_read : (ws ns : List ℕ) → Fit ws ns → fields_in ws (map_of ns) (fields_of ws ns) ≡ some ns
+pub fields_read : (ws ns : List ℕ) → Fit ws ns → fields_in ws (map_of ns) (fields_of ws ns) ≡ Some ns
 unfolding fields_in map_of fields_of stands bit joined field_in
 fields_read [] [] f = refl
 fields_read [] (n ∷ ns) f = absurd f
@@ -111,11 +112,11 @@ record Told (stood : Bool) (w : ℕ) (bs : List ℕ) (n : ℕ) : Type 0 where
   bytes : cond (stands n) (little_end w n) [] ≡ take (cond stood w 0) bs
   within : Within w n
 
-picked : (t : Bool) (x n : ℕ) → cond t (some x) none ≡ some n → (t ≡ true) × (x ≡ n)
-picked true x n e = (refl, some-injective x n e)
-picked false x n e = absurd (none-ne-some n e)
+picked : (t : Bool) (x n : ℕ) → cond t (Some x) None ≡ Some n → (t ≡ true) × (x ≡ n)
+picked true x n e = (refl, same_Some x n e)
+picked false x n e = absurd (none-some n e)
 
-wide-told : (w : ℕ) (bs : List ℕ) (n : ℕ) → Bytes bs → field_in true (suc w) bs ≡ some n → Told true (suc w) bs n
+wide-told : (w : ℕ) (bs : List ℕ) (n : ℕ) → Bytes bs → field_in true (suc w) bs ≡ Some n → Told true (suc w) bs n
 unfolding field_in
 wide-told w bs n b e =
     let ts = take (suc w) bs in
@@ -134,10 +135,10 @@ within-zero : (w : ℕ) → Within w 0
 within-zero zero = omega arith
 within-zero (suc w) = one-le-pow (suc w) 256 (omega arith)
 
-told : (t : Bool) (w : ℕ) (bs : List ℕ) (n : ℕ) → Bytes bs → field_in t w bs ≡ some n → Told t w bs n
+told : (t : Bool) (w : ℕ) (bs : List ℕ) (n : ℕ) → Bytes bs → field_in t w bs ≡ Some n → Told t w bs n
 unfolding field_in stands little_end
-told false w bs n b e = rw (sym (some-injective 0 n e)) (record { bit-of = refl; bytes = refl; within = within-zero w })
-told true zero bs n b e = rw (sym (some-injective 1 n e)) (record { bit-of = refl; bytes = refl; within = omega arith })
+told false w bs n b e = rw (sym (same_Some 0 n e)) (record { bit-of = refl; bytes = refl; within = within-zero w })
+told true zero bs n b e = rw (sym (same_Some 1 n e)) (record { bit-of = refl; bytes = refl; within = omega arith })
 told true (suc w) bs n b e = wide-told w bs n b e
 
 -- what the fields that were read say: the map, the bytes and the ranges
@@ -160,21 +161,21 @@ more w ws m bs n ns t r =
 record Joined (x : Option ℕ) (xs : Option (List ℕ)) (ns : List ℕ) : Type 0 where
   first : ℕ
   others : List ℕ
-  x-is : x ≡ some first
-  xs-is : xs ≡ some others
+  x-is : x ≡ Some first
+  xs-is : xs ≡ Some others
   ns-is : first ∷ others ≡ ns
 
-apart : (x : Option ℕ) (xs : Option (List ℕ)) (ns : List ℕ) → joined x xs ≡ some ns → Joined x xs ns
+apart : (x : Option ℕ) (xs : Option (List ℕ)) (ns : List ℕ) → joined x xs ≡ Some ns → Joined x xs ns
 unfolding joined
-apart (some n) (some l) ns e = record { first = n; others = l; x-is = refl; xs-is = refl; ns-is = some-injective (n ∷ l) ns e }
-apart (some n) none ns e = absurd (none-ne-some ns e)
-apart none xs ns e = absurd (none-ne-some ns e)
+apart (Some n) (Some l) ns e = record { first = n; others = l; x-is = refl; xs-is = refl; ns-is = same_Some (n ∷ l) ns e }
+apart (Some n) None ns e = absurd (none-some ns e)
+apart None xs ns e = absurd (none-some ns e)
 
-pub fields-written : (ws : List ℕ) (m : ℕ) (bs ns : List ℕ) → Bytes bs → fields_in ws m bs ≡ some ns → Written ws m bs ns
+pub fields-written : (ws : List ℕ) (m : ℕ) (bs ns : List ℕ) → Bytes bs → fields_in ws m bs ≡ Some ns → Written ws m bs ns
 unfolding fields_in map_of fields_of
-fields-written [] zero [] ns b e = rw (sym (some-injective [] ns e)) (record { map = refl; fields = refl; fit = tt })
-fields-written [] zero (x ∷ xs) ns b e = absurd (none-ne-some ns e)
-fields-written [] (suc m) bs ns b e = absurd (none-ne-some ns e)
+fields-written [] zero [] ns b e = rw (sym (same_Some [] ns e)) (record { map = refl; fields = refl; fit = tt })
+fields-written [] zero (x ∷ xs) ns b e = absurd (none-some ns e)
+fields-written [] (suc m) bs ns b e = absurd (none-some ns e)
 fields-written (w ∷ ws) m bs ns b e =
     let after = drop (cond (odd m) w 0) bs in
     let j = apart (field_in (odd m) w bs) (fields_in ws (m / 2) after) ns e in

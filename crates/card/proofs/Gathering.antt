@@ -1,59 +1,62 @@
--- One field is gathered: what the fields come to stays. Assumes nothing.
-use Prim.Native.Nat.{ℕ, ◌+◌, ◌/◌, ◌<◌}
-use mathlib.Core.Bool.{true, false}
+-- One field is read: what the fields come to stays. Assumes nothing.
+use Prim.Native.Nat.{ℕ, ◌+◌, ◌/◌, ◌%◌, ◌^◌, ◌<◌}
+use mathlib.Core.Bool.{true}
 use mathlib.Core.List.{List}
-use mathlib.Core.Option.{none, some}
 use mathlib.Core.Path.{◌≡◌, sym, ap, ◌∙◌}
 use native.Mathlib.Omega.{arith}
-use lib.ListN.{length, drop, get_or, set}
+use borrow.Author.Tests.{eq-eqb, ne_eqb}
+use lib.ListN.{length, drop, get_or, set, length-set}
 use lib.Seq.{take_all}
+use Rattle.std.specs.Prelude.{Some, None}
+use native.Mathlib.Nat.{div-one}
+use Rattle.std.proofs.lemmas.Nat.{shr-shr}
 use Rattle.card.specs.Card.{widths, odd, field_in, fields_in}
-use Rattle.card.specs.declared.Gathered.{Gathered}
-use Rattle.card.specs.Functions.{ZeroFrom, fields_after, or_zero}
-use Rattle.card.proofs.Reading.{prefixed-nil, fields-clear, fields-none, fields-set, bits_left, bytes_left, none_left}
+use Rattle.card.specs.Functions.{Reached}
+use Rattle.card.proofs.Reading.{prefixed-nil, fields-clear, fields-none, fields-set, next-within, zero-set, bits_left, bytes_left, none_left}
 
-module _ (i : ℕ) (l : i < 22) (t : Gathered) (body : List ℕ) (e : length t.numbers ≡ 22) where
-  pub unsound-on : (r : Gathered) (j : ℕ) → r.sound ≡ false → t.sound ≡ false → fields_after j r body ≡ fields_after i t body
-  unfolding fields_after
-  unsound-on r j q h = rw (q, h)
+module _ (map : ℕ) (body : List ℕ) where
+  -- before the first field
+  pub begun : (ns : List ℕ) → length ns ≡ 22 → ((k : ℕ) → get_or ns k 0 ≡ 0) → Reached map body 0 0 ns
+  begun ns n z = record { within = omega arith; size = n; zeros = λ k h. z k; fields = prefixed-nil _ ∙ ap (λ (m : ℕ). fields_in widths m body) (div-one map) }
 
-  module _ (s : t.sound ≡ true) where
-    pub clear-on : odd t.rest ≡ false → ZeroFrom i t.numbers
-        → fields_after (i + 1) (record { sound = true; rest = t.rest / 2; at = t.at; numbers = t.numbers }) body ≡ fields_after i t body
-    unfolding fields_after
-    clear-on h z = rw s (sym (fields-clear i l t.rest body t.at t.numbers e h z))
+  module _ (i : ℕ) (l : i < 22) (place : ℕ) (ns : List ℕ) (r : Reached map body i place ns) where
+    halved : map / 2 ^ i / 2 ≡ map / 2 ^ (i + 1)
+    halved = shr-shr map i 1
 
-    -- the number n of the field's w bytes
-    module _ (w n : ℕ) (q : w ≡ get_or widths i 0) (h : odd t.rest ≡ true) (d : n ≡ or_zero (field_in true w (drop t.at body))) where
-      pub zero-on : (r : Gathered) (j : ℕ) → r.sound ≡ false → n ≡ 0 → fields_after j r body ≡ fields_after i t body
-      unfolding fields_after
-      zero-on r j u z = rw (u, s) (sym (fields-none i l t.rest body t.at t.numbers e w n q h d z))
+    -- a field whose bit does not stand
+    pub clear-on : (map / 2 ^ i) % 2 ≡ 0 → Reached map body (i + 1) place ns
+    clear-on h =
+        record {
+          within = r.within;
+          size = r.size;
+          zeros = λ k j. r.zeros k (omega arith);
+          fields = rw (← halved) (sym (fields-clear i l (map / 2 ^ i) body place ns r.size (ne_eqb _ 1 (λ q. omega (arith, q))) r.zeros) ∙ r.fields);
+        }
 
-      pub set_on : (n ≡ 0 → ⊥)
-          → fields_after (i + 1) (record { sound = true; rest = t.rest / 2; at = t.at + w; numbers = set t.numbers i n }) body ≡ fields_after i t body
-      unfolding fields_after
-      set_on z = rw s (sym (fields-set i l t.rest body t.at t.numbers e w n q h d z))
+    -- the field's w bytes
+    module _ (w : ℕ) (q : w ≡ get_or widths i 0) (h : (map / 2 ^ i) % 2 ≡ 0 → ⊥) where
+      bit : odd (map / 2 ^ i) ≡ true
+      bit = eq-eqb _ 1 (omega arith)
 
--- before the first field
-pub at_first : (map : ℕ) (ns : List ℕ) (body : List ℕ) → fields_after 0 (record { sound = true; rest = map; at = 0; numbers = ns }) body ≡ fields_in widths map body
-unfolding fields_after
-at_first map ns body = prefixed-nil _
+      pub none-on : field_in true w (drop place body) ≡ None → None ≡ fields_in widths map body
+      none-on f = sym (fields-none i l (map / 2 ^ i) body place ns r.size w q bit f) ∙ r.fields
 
--- after the last
-module _ (t : Gathered) (body : List ℕ) where
-  pub last-unsound : t.sound ≡ false → fields_after 22 t body ≡ none
-  unfolding fields_after
-  last-unsound h = rw h
+      pub set_on : (n : ℕ) → field_in true w (drop place body) ≡ Some n → Reached map body (i + 1) (place + w) (set ns i n)
+      set_on n f =
+          record {
+            within = next-within i l (map / 2 ^ i) body place ns r.size w q bit n f r.within;
+            size = length-set ns i n ∙ r.size;
+            zeros = zero-set i n ns r.zeros;
+            fields = rw (← halved) (sym (fields-set i l (map / 2 ^ i) body place ns r.size w q bit n f) ∙ r.fields);
+          }
 
-  module _ (s : t.sound ≡ true) where
-    pub last-bits : (t.rest ≡ 0 → ⊥) → fields_after 22 t body ≡ none
-    unfolding fields_after
-    last-bits h = rw s (bits_left _ _ _ h)
+  -- after the last
+  module _ (place : ℕ) (ns : List ℕ) (r : Reached map body 22 place ns) where
+    pub last-bits : (map / 2 ^ 22 ≡ 0 → ⊥) → None ≡ fields_in widths map body
+    last-bits h = sym (bits_left _ _ _ h) ∙ r.fields
 
-    pub last-bytes : t.rest ≡ 0 → 0 < length (drop t.at body) → fields_after 22 t body ≡ none
-    unfolding fields_after
-    last-bytes e h = rw s (bytes_left _ _ _ e h)
+    pub last-bytes : map / 2 ^ 22 ≡ 0 → 0 < length (drop place body) → None ≡ fields_in widths map body
+    last-bytes e h = sym (bytes_left _ _ _ e h) ∙ r.fields
 
-    pub last-sound : length t.numbers ≡ 22 → t.rest ≡ 0 → length (drop t.at body) ≡ 0 → fields_after 22 t body ≡ some t.numbers
-    unfolding fields_after
-    last-sound n e h = rw s (none_left _ _ _ e h ∙ ap some (take_all 22 t.numbers (omega arith)))
+    pub last-sound : map / 2 ^ 22 ≡ 0 → length (drop place body) ≡ 0 → Some ns ≡ fields_in widths map body
+    last-sound e h = ap Some (sym (take_all 22 ns (omega (arith, r.size)))) ∙ sym (none_left _ _ _ e h) ∙ r.fields

@@ -9,22 +9,23 @@ use lib.Dec.{ltb}
 use lib.ListN.{length, drop, get_or, drop_of_length-le}
 use lib.Seq.{drop-drop}
 use Rattle.card.specs.Card.{Found, Ends, Accepts, Refuses, entry_in, Contents, onward, records_in, read_card}
-use Rattle.card.specs.Functions.{read_of, read_at, onward_by, read_from, read_all}
+use Rattle.card.specs.Functions.{error_number, error_of, read_of, read_at, onward_by, read_from, read_all}
 use Rattle.card.proofs.Files.{records-skip}
+use Rattle.card.proofs.Records.{error-number}
 use Rattle.card.proofs.Steps.{rest_at}
 
 -- one reading, where the later ones are right
-turn : (at L : ℕ) (f : Found) (rest : ℕ → Contents) (later : Contents) → rest (at + L + 3) ≡ later
-    → (let r = read_of at L f in onward_by r.entry r.receipt (rest r.next)) ≡ onward f later
+turn : (at L : ℕ) (f : Found) (rest : ℕ → Contents) (later : Contents) → ((n : ℕ) → f ≡ Refuses n → error_number (error_of n) ≡ n)
+    → rest (at + L + 3) ≡ later → onward_by (read_of at L f) rest ≡ onward f later
 unfolding read_of onward_by onward
-turn at L Ends rest later e = refl
-turn at L (Accepts r bs) rest later e = rw e
-turn at L (Refuses n) rest later e = refl
+turn at L Ends rest later k e = refl
+turn at L (Accepts r bs) rest later k e = rw e
+turn at L (Refuses n) rest later k e = rw (k n refl)
 
 -- one reading, at the end and before it
 module _ (card : List ℕ) (at : ℕ) (rest : ℕ → Contents) where
   abbrev once : Contents
-  once = let r = read_at card at in onward_by r.entry r.receipt (rest r.next)
+  once = onward_by (read_at card at) rest
 
   at-end : length card ≤ at → once ≡ records_in 0 (drop at card)
   unfolding read_at read_of onward_by entry_in records_in
@@ -36,7 +37,7 @@ module _ (card : List ℕ) (at : ℕ) (rest : ℕ → Contents) where
       let k : at + 1 + (get_or card at 0 + 2) ≡ at + get_or card at 0 + 3 = omega arith in
       let s : records_in (get_or card at 0 + 2) (drop (at + 1) card) ≡ records_in 0 (drop (at + get_or card at 0 + 3) card) =
       records-skip (get_or card at 0 + 2) (drop (at + 1) card) ∙ rw (drop-drop, k) in
-      rw (rest_at card at h) (turn at (get_or card at 0) (entry_in (get_or card at 0 ∷ drop (at + 1) card)) rest _ (e ∙ sym s))
+      rw (rest_at card at h) (turn at (get_or card at 0) (entry_in (get_or card at 0 ∷ drop (at + 1) card)) rest _ (error-number _) (e ∙ sym s))
 
 -- from any place on, with as many readings as there are bytes left
 pub from_place : (n : ℕ) (card : List ℕ) (at : ℕ) → length card ≤ at + n → read_from n card at ≡ records_in 0 (drop at card)

@@ -2,7 +2,7 @@
 use Prim.Native.Nat.{ℕ, ◌%◌}
 use mathlib.Core.Bool.{true}
 use mathlib.Core.List.{List}
-use mathlib.Core.Option.{none, some}
+use Rattle.std.specs.Prelude.{Some, None}
 use mathlib.Core.Path.{◌≡◌, refl, sym, ap, ◌∙◌}
 use native.Mathlib.Nat.{mod-eq_of_lt}
 use lib.Dec.{eqb, ltb}
@@ -64,15 +64,15 @@ module _ (ns : List ℕ) (f : Fit widths ns) where
       rw (a ∙ mod-eq_of_lt (low 2 refl), b ∙ mod-eq_of_lt (low 6 refl), c ∙ mod-eq_of_lt (low 7 refl), x, y, p ∙ mod-eq_of_lt (low 17 refl), q ∙ mod-eq_of_lt (low 18 refl))
 
 module _ (ns : List ℕ) where
-  pub no-decision : decision_at (nth ns 9) ≡ NumberedDecision.Unknown → none ≡ receipt_of ns
+  pub no-decision : decision_at (nth ns 9) ≡ NumberedDecision.Unknown → None ≡ receipt_of ns
   unfolding receipt_of receipt_from
   no-decision e = rw e
 
-  pub no-reason : {d : Decision} → decision_at (nth ns 9) ≡ NumberedDecision.Known d → reason_at (nth ns 10) ≡ Numbered.Unknown → none ≡ receipt_of ns
+  pub no-reason : {d : Decision} → decision_at (nth ns 9) ≡ NumberedDecision.Known d → reason_at (nth ns 10) ≡ Numbered.Unknown → None ≡ receipt_of ns
   unfolding receipt_of receipt_from
   no-reason e h = rw (e, h)
 
   pub whole : {d : Decision} {x : Reason} → decision_at (nth ns 9) ≡ NumberedDecision.Known d → reason_at (nth ns 10) ≡ Numbered.Known x
-      → some (receipt_with d x ns) ≡ receipt_of ns
+      → Some (receipt_with d x ns) ≡ receipt_of ns
   unfolding receipt_of receipt_from
   whole e h = rw (e, h)

@@ -1,16 +1,17 @@
 -- A record written by its parts: the length byte, the map, the fields, the sum. Assumes nothing.
 use Prim.Native.Nat.{ℕ, ◌+◌, ◌<◌, ◌≤◌}
 use mathlib.Core.List.{List, ◌∷◌, ◌++◌}
-use mathlib.Core.Path.{◌≡◌, sym, ◌∙◌}
+use mathlib.Core.Path.{◌≡◌, sym, ap, ◌∙◌}
 use native.Mathlib.Omega.{arith}
 use lib.ListN.{length, take, drop, set}
+use Rattle.std.specs.Prelude.{Some, None}
 use Rattle.model.specs.declared.Receipt.{Receipt}
 use Rattle.words.specs.Words.{little_end, over}
 use Rattle.words.proofs.Ends.{length-little_end}
 use Rattle.words.proofs.Over.{over-cons, over-over, over-part}
 use Rattle.card.specs.declared.Plan.{Plan}
 use Rattle.card.specs.Card.{widths, numbers_of, map_of, fields_of, body_of, sum, framed, record_of}
-use Rattle.card.specs.Functions.{written, count, Plans}
+use Rattle.card.specs.Functions.{written, counted, Plans}
 use Rattle.card.proofs.Records.{body-length, framed-length}
 use Rattle.card.proofs.Writing.{with-room, without-room}
 
@@ -51,14 +52,14 @@ module _ (r : Receipt) (ns : List ℕ) (e : ns ≡ numbers_of r) (plan : Plan) (
   unfolding record_of
   record-size = rw e at (size_is ns plan p)
 
-  pub no_record : length card < at + (plan.length + 3) → (0 ≡ count card at (record_of r)) × (card ≡ written card at (record_of r))
+  pub no_record : length card < at + (plan.length + 3) → (None ≡ counted card at (record_of r)) × (card ≡ written card at (record_of r))
   no_record h = without-room card at (record_of r) (omega (arith, record-size))
 
   pub record-placed : {c₂ c₃ c₄ : List ℕ} {s n : ℕ} → at + (plan.length + 3) ≤ length card
       → c₂ ≡ over (set card at plan.length) (at + 1) (little_end 4 plan.map) → c₃ ≡ over c₂ (at + 5) (fields_of widths ns)
       → n ≡ plan.length + 1 → s ≡ sum (take n (drop at c₃)) → c₄ ≡ over c₃ (at + plan.length + 1) (little_end 2 s)
-      → (plan.length + 3 ≡ count card at (record_of r)) × (c₄ ≡ written card at (record_of r))
+      → (Some (plan.length + 3) ≡ counted card at (record_of r)) × (c₄ ≡ written card at (record_of r))
   unfolding record_of
   record-placed h a b k c d =
       let w = with-room card at (record_of r) (omega (arith, record-size)) in
-      (sym record-size ∙ w.0, ended ns plan p card at h (begun ns plan p card at h a b) k c d ∙ rw e w.1)
+      (ap Some (sym record-size) ∙ w.0, ended ns plan p card at h (begun ns plan p card at h a b) k c d ∙ rw e w.1)

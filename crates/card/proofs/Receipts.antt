@@ -2,7 +2,8 @@
 use Prim.Native.Nat.{ℕ, zero, suc, ◌+◌, ◌*◌, ◌/◌, ◌%◌, ◌<◌}
 use mathlib.Core.Bool.{Bool, true, false}
 use mathlib.Core.List.{List, [], ◌∷◌}
-use mathlib.Core.Option.{some, none-ne-some, some-injective}
+use Rattle.std.specs.Prelude.{Some}
+use Rattle.std.proofs.lemmas.Option.{none-some, same_Some}
 use mathlib.Core.Path.{◌≡◌, refl, sym, subst}
 use native.Mathlib.Omega.{arith}
 use borrow.Author.Tests.{leb-true, leb-false}
@@ -124,7 +125,7 @@ numbers_fit r f =
     and bit_below r.observed_valid
     and tt
 
-pub receipt-back : (r : Receipt) → Fits r → receipt_of (numbers_of r) ≡ some r
+pub receipt-back : (r : Receipt) → Fits r → receipt_of (numbers_of r) ≡ Some r
 unfolding receipt_of numbers_of receipt_from receipt_with
 receipt-back r f =
     rw (decision-number r.decision, reason-number r.reason, pair-number f.requested, pair-number f.observed)
@@ -182,15 +183,15 @@ pub record Made (ns : List ℕ) (r : Receipt) : Type 0 where
   pub fits : Fits r
   pub numbers : numbers_of r ≡ ns
 
-pub made : (ns : List ℕ) (r : Receipt) → Fit widths ns → receipt_of ns ≡ some r → Made ns r
+pub made : (ns : List ℕ) (r : Receipt) → Fit widths ns → receipt_of ns ≡ Some r → Made ns r
 unfolding receipt_of receipt_from
 made ns r f h = go (decision_at (nth ns 9)) refl (reason_at (nth ns 10)) refl h
   where
-    go : (d : NumberedDecision) → decision_at (nth ns 9) ≡ d → (e : Numbered) → reason_at (nth ns 10) ≡ e → receipt_from d e ns ≡ some r → Made ns r
+    go : (d : NumberedDecision) → decision_at (nth ns 9) ≡ d → (e : Numbered) → reason_at (nth ns 10) ≡ e → receipt_from d e ns ≡ Some r → Made ns r
     go (NumberedDecision.Known d) p (Numbered.Known e) q h =
         let ds = number-decision (nth ns 9) d p in
         let es = number-reason (nth ns 10) e q in
-        subst (Made ns) (some-injective (receipt_with d e ns) r h)
+        subst (Made ns) (same_Some (receipt_with d e ns) r h)
         (record { fits = fits-with ns f d e; numbers = numbers-with ns f d e ds es })
-    go (NumberedDecision.Known d) p Numbered.Unknown q h = absurd (none-ne-some r h)
-    go NumberedDecision.Unknown p e q h = absurd (none-ne-some r h)
+    go (NumberedDecision.Known d) p Numbered.Unknown q h = absurd (none-some r h)
+    go NumberedDecision.Unknown p e q h = absurd (none-some r h)

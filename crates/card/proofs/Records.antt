@@ -3,7 +3,8 @@ use Prim.Native.Nat.{ℕ, suc, ◌+◌, ◌^◌, ◌<◌, ◌≤◌}
 use mathlib.Core.Bool.{Bool, true, false, ◌&&◌, cond}
 use mathlib.Core.List.{List, [], ◌∷◌, ◌++◌, append_assoc}
 use mathlib.Core.Logic.{◌⊎◌, inl, inr, ◌↔◌}
-use mathlib.Core.Option.{Option, some, none, bind, bind-eq-some_iff, none-ne-some}
+use Rattle.std.specs.Prelude.{Option, Some, None, option_and_then}
+use Rattle.std.proofs.lemmas.Option.{none-some, option_and_then_some}
 use mathlib.Core.Path.{◌≡◌, refl, ap, ◌∙◌, subst}
 use native.Mathlib.Omega.{arith}
 use borrow.Author.Tests.{le-leb, lt-leb, leb-true, leb-false, eq-eqb, eqb-true}
@@ -16,7 +17,7 @@ use Rattle.words.specs.Words.{Bytes, little_end, little_number}
 use Rattle.words.proofs.Numbers.{number-bytes}
 use Rattle.words.proofs.Ends.{length-little_end}
 use Rattle.card.specs.Card.{widths, numbers_of, receipt_of, map_of, fields_of, body_of, sum, framed, record_of, fields_in, is_framed, receipt_in, Found, Accepts, Refuses, past_end, unsound, judged, entry_in}
-use Rattle.card.specs.Functions.{Fit}
+use Rattle.card.specs.Functions.{error_number, error_of, Fit}
 use Rattle.card.specs.Claim.{Fits, Holds, Sized, Refused, EndsPast, Broken}
 use Rattle.card.proofs.Bytes.{bytes_take, bytes_drop, bytes-append, bytes-little_end, sum_below, width-number}
 use Rattle.card.proofs.FieldLaws.{fit_length, map_below, fields-length, fields-bytes, fields_read, Written, fields-written}
@@ -93,7 +94,7 @@ framed-body body b low high =
     rw (le-leb 4 (length body) low, le-leb (length body) 126 high) (eq-eqb (little_number (little_end 2 s)) s (number-bytes 2 s k))
 
 body-fields : (ns : List ℕ) → Fit widths ns
-    → fields_in widths (little_number (take 4 (body_of widths ns))) (drop 4 (body_of widths ns)) ≡ some ns
+    → fields_in widths (little_number (take 4 (body_of widths ns))) (drop 4 (body_of widths ns)) ≡ Some ns
 unfolding body_of widths
 body-fields ns f =
     let bs = little_end 4 (map_of ns) in
@@ -102,8 +103,8 @@ body-fields ns f =
     let k : map_of ns < 256 ^ 4 = omega (arith, rw (fit_length widths ns f) at (map_below ns)) in
     rw (take_at bs fs 4 four, drop_at bs fs 4 four, number-bytes 4 (map_of ns) k) (fields_read widths ns f)
 
-written-receipt : (r : Receipt) → Fits r → receipt_in (length (body_for r)) (body_for r) (sum_bytes (body_for r)) ≡ some r
-unfolding receipt_in bind
+written-receipt : (r : Receipt) → Fits r → receipt_in (length (body_for r)) (body_for r) (sum_bytes (body_for r)) ≡ Some r
+unfolding receipt_in
 written-receipt r f =
     let ns = numbers_of r in
     let framed = framed-body (body_for r) (body_bytes ns) (omega (arith, body-length ns)) (body-most ns) in
@@ -120,29 +121,31 @@ record Sound (L : ℕ) (body end : List ℕ) (r : Receipt) : Type 0 where
   low : 4 ≤ L
   sum_is : little_number end ≡ L + sum body
   numbers : List ℕ
-  fields : fields_in widths (little_number (take 4 body)) (drop 4 body) ≡ some numbers
-  receipt : receipt_of numbers ≡ some r
+  fields : fields_in widths (little_number (take 4 body)) (drop 4 body) ≡ Some numbers
+  receipt : receipt_of numbers ≡ Some r
 
-sound : (L : ℕ) (body end : List ℕ) (r : Receipt) → receipt_in L body end ≡ some r → Sound L body end r
+sound : (L : ℕ) (body end : List ℕ) (r : Receipt) → receipt_in L body end ≡ Some r → Sound L body end r
 unfolding receipt_in is_framed
 sound L body end r e = go (is_framed L body end) refl e
   where
     fs : Option (List ℕ)
     fs = fields_in widths (little_number (take 4 body)) (drop 4 body)
 
-    go : (t : Bool) → is_framed L body end ≡ t → cond t (bind fs receipt_of) none ≡ some r → Sound L body end r
+    go : (t : Bool) → is_framed L body end ≡ t → cond t (option_and_then receipt_of fs) None ≡ Some r → Sound L body end r
     go true h e =
         let p = and_both (leb 4 L) (leb L 126 && eqb (little_number end) (L + sum body)) h in
         let q = and_both (leb L 126) (eqb (little_number end) (L + sum body)) p.1 in
-        let b = (bind-eq-some_iff fs receipt_of).0 e in
+        option_and_then_some receipt_of fs r e (
+        λ ns f m.
         record {
           low = leb-true 4 L p.0;
           sum_is = eqb-true (little_number end) (L + sum body) q.1;
-          numbers = b.0;
-          fields = b.1;
-          receipt = b.2;
+          numbers = ns;
+          fields = f;
+          receipt = m;
         }
-    go false h e = absurd (none-ne-some r e)
+        )
+    go false h e = absurd (none-some r e)
 
 body-written : (body ns : List ℕ) → Bytes body → 4 ≤ length body
     → Written widths (little_number (take 4 body)) (drop 4 body) ns → body_of widths ns ≡ body
@@ -165,7 +168,7 @@ framed-written L xs b h s =
 pub data Case (L : ℕ) (xs : List ℕ) : Found → Type 0 where
   past : EndsPast L xs → Case L xs (Refuses past_end)
   broken : L + 3 ≤ length (L ∷ xs) → Case L xs (Refuses unsound)
-  whole : {r : Receipt} → L + 3 ≤ length (L ∷ xs) → receipt_in L (take L xs) (take 2 (drop L xs)) ≡ some r → Case L xs (Accepts r (drop (L + 2) xs))
+  whole : {r : Receipt} → L + 3 ≤ length (L ∷ xs) → receipt_in L (take L xs) (take 2 (drop L xs)) ≡ Some r → Case L xs (Accepts r (drop (L + 2) xs))
 
 pub cases : (L : ℕ) (xs : List ℕ) → Case L xs (entry_in (L ∷ xs))
 unfolding entry_in judged
@@ -173,8 +176,8 @@ cases L xs = go (leb (L + 3) (length (L ∷ xs))) refl (receipt_in L (take L xs)
   where
     go : (t : Bool) → leb (L + 3) (length (L ∷ xs)) ≡ t → (o : Option Receipt) → receipt_in L (take L xs) (take 2 (drop L xs)) ≡ o
         → Case L xs (cond t (judged o (drop (L + 2) xs)) (Refuses past_end))
-    go true h (some r) p = whole (leb-true (L + 3) (length (L ∷ xs)) h) p
-    go true h none p = broken (leb-true (L + 3) (length (L ∷ xs)) h)
+    go true h (Some r) p = whole (leb-true (L + 3) (length (L ∷ xs)) h) p
+    go true h None p = broken (leb-true (L + 3) (length (L ∷ xs)) h)
     go false h o p = past (leb-false (L + 3) (length (L ∷ xs)) h)
 
 case-written : {L : ℕ} {xs : List ℕ} {r : Receipt} {rest : List ℕ} → Bytes xs → Case L xs (Accepts r rest) → Holds (L ∷ xs) r rest
@@ -211,6 +214,11 @@ module _ {L : ℕ} {xs : List ℕ} where
   case-number (past h) = inl refl
   case-number (broken h) = inr refl
 
+  case-error : {n : ℕ} → Case L xs (Refuses n) → error_number (error_of n) ≡ n
+  unfolding error_number error_of
+  case-error (past h) = refl
+  case-error (broken h) = refl
+
   case-past : {n : ℕ} → n ≡ past_end → Case L xs (Refuses n) → EndsPast L xs
   case-past e (past h) = h
   case-past e (broken h) = absurd (omega arith)
@@ -223,6 +231,12 @@ module _ {L : ℕ} {xs : List ℕ} where
   broken-refused b n (past h) = absurd (omega arith)
   broken-refused b n (broken h) = refl
   broken-refused b n (whole {r} h p) = let k = case-written b (whole h p) in absurd (n.none r (drop (L + 2) xs) k.fits k.bytes)
+
+-- a refusal by its number
+pub error-number : (bs : List ℕ) (n : ℕ) → entry_in bs ≡ Refuses n → error_number (error_of n) ≡ n
+unfolding entry_in
+error-number [] n e = clash (cc)
+error-number (L ∷ xs) n e = case-error (subst (Case L xs) e (cases L xs))
 
 -- 122: it ends past the file
 pub past-exactly : (L : ℕ) (xs : List ℕ) → Refused past_end L xs ↔ EndsPast L xs

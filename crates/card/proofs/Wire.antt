@@ -1,9 +1,9 @@
 -- A receipt in words: what is within its fields, and the numbers of words. Assumes nothing.
 use Prim.Native.Nat.{ℕ, zero, suc, ◌+◌, ◌*◌, ◌<◌, ◌≤◌, suc-le-suc}
-use mathlib.Core.Bool.{true, false, ◌&&◌, false≢true}
+use mathlib.Core.Bool.{true, false, ◌&&◌}
 use mathlib.Core.List.{List, [], ◌∷◌, ◌++◌}
-use mathlib.Core.Option.{Option, some, none}
-use mathlib.Core.Path.{◌≡◌, refl, sym, ap, ◌∙◌}
+use Rattle.std.specs.Prelude.{Option, Some, None, Result, Ok, Err}
+use mathlib.Core.Path.{◌≡◌, refl, ◌∙◌}
 use native.Mathlib.Omega.{arith}
 use borrow.Author.Tests.{leb-true, eq-eqb, ne_eqb, lt-ltb, le-ltb}
 use lib.Dec.{T, leb, ltb, lit<}
@@ -13,13 +13,13 @@ use Rattle.model.specs.declared.Receipt.{Receipt}
 use Rattle.words.specs.Words.{words_at, little_end, bytes_of, over}
 use Rattle.words.proofs.Ends.{length-little_end, length-bytes_of}
 use Rattle.words.proofs.Over.{over-over}
-use Rattle.card.specs.declared.Entry.{Entry}
-use Rattle.card.specs.declared.Held.{Held}
-use Rattle.card.specs.declared.Read.{Read}
-use Rattle.card.specs.Card.{widths, receipt_of, record_of, Found, Ends, Accepts, Refuses, entry_in}
-use Rattle.card.specs.Functions.{written, count, read_of, read_at, held_of, Fit}
-use Rattle.card.specs.Wire.{wire_limits, within, wire_numbers, wire_words_from, wire_words, wire_receipt, wire_written, wire_count, head_answer, entry_answer, entry_read, wire_answer, wire_read}
+use Rattle.card.specs.declared.CardError.{CardError}
+use Rattle.card.specs.declared.Record.{Record}
+use Rattle.card.specs.Card.{widths, receipt_of, Found, Ends, Accepts, Refuses, entry_in}
+use Rattle.card.specs.Functions.{error_number, error_of, read_of, read_at, Fit}
+use Rattle.card.specs.Wire.{wire_limits, within, wire_numbers, wire_words_from, wire_words, wire_receipt, head_answer, entry_answer, entry_read, wire_answer, wire_read}
 use Rattle.card.proofs.Receipts.{◌and◌}
+use Rattle.card.proofs.Records.{error-number}
 use Rattle.card.proofs.Steps.{rest_at}
 
 -- within its limits ------------------------------------------------------------------------------------------------------
@@ -105,11 +105,11 @@ words_size r = length-bytes_of (wire_words r)
 -- reading and writing in words -------------------------------------------------------------------------------------------
 
 module _ (bs : List ℕ) where
-  pub uneven : (length bs ≡ 192 → ⊥) → none ≡ wire_receipt bs
+  pub uneven : (length bs ≡ 192 → ⊥) → None ≡ wire_receipt bs
   unfolding wire_receipt
   uneven h = rw (ne_eqb (length bs) 192 h)
 
-  pub beyond : length bs ≡ 192 → within (words_at 24 bs 0) wire_limits ≡ false → none ≡ wire_receipt bs
+  pub beyond : length bs ≡ 192 → within (words_at 24 bs 0) wire_limits ≡ false → None ≡ wire_receipt bs
   unfolding wire_receipt
   beyond h e = rw (eq-eqb (length bs) 192 h, e)
 
@@ -117,37 +117,24 @@ module _ (bs : List ℕ) where
   unfolding wire_receipt
   inside h e = rw (eq-eqb (length bs) 192 h, e)
 
--- what the struct for a receipt says
-module _ {h : Held} (card : List ℕ) where
-  pub unwritten : (o : Option Receipt) → h ≡ held_of o → h.sound ≡ false → (0 ≡ wire_count o card) × (card ≡ wire_written o card)
-  unfolding held_of wire_count wire_written
-  unwritten none e n = (refl, refl)
-  unwritten (some r) e n = absurd (false≢true (sym n ∙ ap (λ (h : Held). h.sound) e))
+-- what a reading says
+unfoldable pub answer_by : Result (Option Record) CardError → ℕ
+answer_by (Ok (Some r)) = 0
+answer_by (Ok None) = 1
+answer_by (Err e) = error_number e
 
-  pub as_written : (o : Option Receipt) {n : ℕ} {after : List ℕ} → h ≡ held_of o → h.sound ≡ true
-      → (n ≡ count card 0 (record_of h.receipt)) × (after ≡ written card 0 (record_of h.receipt))
-      → (n ≡ wire_count o card) × (after ≡ wire_written o card)
-  unfolding held_of wire_count wire_written
-  as_written (some r) e n w = rw (ap (λ (h : Held). h.receipt) e) at w
-  as_written none e n w = absurd (false≢true (sym (ap (λ (h : Held). h.sound) e) ∙ n))
-
--- what the struct for a reading says
-unfoldable pub answer_by : Entry → ℕ
-answer_by Entry.Accepted = 0
-answer_by Entry.End = 1
-answer_by (Entry.Refused n) = n
-
-unfoldable pub read_by : Entry → Receipt → List ℕ → List ℕ
-read_by Entry.Accepted r out = over out 0 (bytes_of (wire_words r))
-read_by Entry.End r out = out
-read_by (Entry.Refused n) r out = out
+unfoldable pub read_by : Result (Option Record) CardError → List ℕ → List ℕ
+read_by (Ok (Some r)) out = over out 0 (bytes_of (wire_words r.receipt))
+read_by (Ok None) out = out
+read_by (Err e) out = out
 
 module _ (card : List ℕ) (at : ℕ) (out : List ℕ) where
-  answered : {r : Read} (L : ℕ) (f : Found) → r ≡ read_of at L f → (answer_by r.entry ≡ entry_answer f) × (read_by r.entry r.receipt out ≡ entry_read f out)
+  answered : {r : Result (Option Record) CardError} (L : ℕ) (f : Found) → ((n : ℕ) → f ≡ Refuses n → error_number (error_of n) ≡ n)
+      → r ≡ read_of at L f → (answer_by r ≡ entry_answer f) × (read_by r out ≡ entry_read f out)
   unfolding answer_by read_by read_of entry_answer entry_read
-  answered L Ends e = (rw e, rw e)
-  answered L (Accepts r rest) e = (rw e, rw e)
-  answered L (Refuses n) e = (rw e, rw e)
+  answered L Ends k e = (rw e, rw e)
+  answered L (Accepts r rest) k e = (rw e, rw e)
+  answered L (Refuses n) k e = (rw e (k n refl), rw e)
 
   pub at_head : at < 4 → (head_answer card ≡ wire_answer card at out) × (out ≡ wire_read card at out)
   unfolding wire_answer wire_read
@@ -159,10 +146,10 @@ module _ (card : List ℕ) (at : ℕ) (out : List ℕ) where
       let d = le-ltb at 4 h in
       let e = lt-ltb (length out) 192 l in (rw (d, e), rw (d, e))
 
-  pub at-record : {r : Read} → 4 ≤ at → 192 ≤ length out → r ≡ read_at card at
-      → (answer_by r.entry ≡ wire_answer card at out) × (read_by r.entry r.receipt out ≡ wire_read card at out)
+  pub at-record : {r : Result (Option Record) CardError} → 4 ≤ at → 192 ≤ length out → r ≡ read_at card at
+      → (answer_by r ≡ wire_answer card at out) × (read_by r out ≡ wire_read card at out)
   unfolding wire_answer wire_read read_at
   at-record h l q =
       let d = le-ltb at 4 h in
       let e = le-ltb (length out) 192 l in
-      let a = answered (get_or card at 0) (entry_in (drop at card)) q in (rw (d, e) a.0, rw (d, e) a.1)
+      let a = answered (get_or card at 0) (entry_in (drop at card)) (error-number (drop at card)) q in (rw (d, e) a.0, rw (d, e) a.1)

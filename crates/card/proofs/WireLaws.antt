@@ -2,7 +2,8 @@
 use Prim.Native.Nat.{ℕ, zero, suc, ◌+◌, ◌*◌, ◌/◌, ◌%◌, ◌<◌, ◌≤◌}
 use mathlib.Core.Bool.{Bool, true, false, ◌&&◌, cond}
 use mathlib.Core.List.{List, [], ◌∷◌, ◌++◌}
-use mathlib.Core.Option.{Option, some, none, none-ne-some}
+use Rattle.std.specs.Prelude.{Option, Some, None}
+use Rattle.std.proofs.lemmas.Option.{none-some}
 use mathlib.Core.Path.{◌≡◌, refl, sym, ap, ◌∙◌}
 use native.Mathlib.Nat.{add_assoc, add-zero, le_of_suc-le-suc}
 use native.Mathlib.Omega.{arith}
@@ -164,7 +165,7 @@ words-from ws l e =
 
 -- receipts and their bytes -----------------------------------------------------------------------------------------------
 
-pub words-read : (r : Receipt) → Fits r → wire_receipt (bytes_of (wire_words r)) ≡ some r
+pub words-read : (r : Receipt) → Fits r → wire_receipt (bytes_of (wire_words r)) ≡ Some r
 unfolding wire_words
 words-read r f =
     let ns = numbers_of r in
@@ -175,17 +176,17 @@ words-read r f =
     sym (Wire.inside bs (Wire.words_size r) u) ∙ rw (w, numbers-back ns fit) (receipt-back r f)
 
 -- what a receipt that was read says of the bytes
-asked : (t u : Bool) (o : Option Receipt) (r : Receipt) → cond (t && u) o none ≡ some r → (t ≡ true) × (u ≡ true) × (o ≡ some r)
+asked : (t u : Bool) (o : Option Receipt) (r : Receipt) → cond (t && u) o None ≡ Some r → (t ≡ true) × (u ≡ true) × (o ≡ Some r)
 asked true true o r e = (refl, refl, e)
-asked true false o r e = absurd (none-ne-some r e)
-asked false u o r e = absurd (none-ne-some r e)
+asked true false o r e = absurd (none-some r e)
+asked false u o r e = absurd (none-some r e)
 
 length-words : (n : ℕ) (bs : List ℕ) (i : ℕ) → length (words_at n bs i) ≡ n
 unfolding words_at
 length-words zero bs i = refl
 length-words (suc n) bs i = ap suc (length-words n bs (i + 8))
 
-pub read-words : (bs : List ℕ) (r : Receipt) → Bytes bs → wire_receipt bs ≡ some r → Fits r × (bytes_of (wire_words r) ≡ bs)
+pub read-words : (bs : List ℕ) (r : Receipt) → Bytes bs → wire_receipt bs ≡ Some r → Fits r × (bytes_of (wire_words r) ≡ bs)
 unfolding wire_receipt wire_words
 read-words bs r b e =
     let ws = words_at 24 bs 0 in

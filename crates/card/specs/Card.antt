@@ -1,6 +1,5 @@
 -- A card file of receipts (02, item 1). The quoted sentences are its.
-use Rattle.std.specs.Prelude.{ℕ, zero, suc, ◌+◌, ◌*◌, ◌/◌, ◌%◌, Bool, true, false, ◌&&◌, cond, List, [], ◌∷◌, ◌++◌, eqb, leb, ℤ, pos, length, take, drop, get_or}
-use Rattle.std.proofs.Math.Option.{Option, some, none, bind}
+use Rattle.std.specs.Prelude.{ℕ, zero, suc, ◌+◌, ◌*◌, ◌/◌, ◌%◌, Bool, true, false, ◌&&◌, cond, List, [], ◌∷◌, ◌++◌, eqb, leb, ℤ, pos, length, take, drop, get_or, Option, Some, None, option_and_then}
 use Rattle.model.specs.Decisions.{decision_number, decision_at}
 use Rattle.model.specs.Reasons.{number, reason_at}
 use Rattle.model.specs.declared.Decision.{Decision}
@@ -91,9 +90,9 @@ receipt_with decision reason ns =
 
 -- the receipt of 22 numbers; none for "a decision or reason that has no number"
 unfoldable pub receipt_from : NumberedDecision → Numbered → List ℕ → Option Receipt
-receipt_from (NumberedDecision.Known d) (Numbered.Known e) ns = some (receipt_with d e ns)
-receipt_from (NumberedDecision.Known d) Numbered.Unknown ns = none
-receipt_from NumberedDecision.Unknown e ns = none
+receipt_from (NumberedDecision.Known d) (Numbered.Known e) ns = Some (receipt_with d e ns)
+receipt_from (NumberedDecision.Known d) Numbered.Unknown ns = None
+receipt_from NumberedDecision.Unknown e ns = None
 
 unfoldable pub receipt_of : List ℕ → Option Receipt
 receipt_of ns = receipt_from (decision_at (nth ns 9)) (reason_at (nth ns 10)) ns
@@ -159,16 +158,16 @@ unsound = 123
 -- A field by its bit, from the bytes at its place. A clear bit: 0. A bit that stands: 1 for a yes/no field, else the number of the field's
 -- bytes. None where these are missing, or are all 0: the bit stands "exactly when its field is not zero".
 unfoldable pub field_in : Bool → ℕ → List ℕ → Option ℕ
-field_in false w bs = some 0
-field_in true zero bs = some 1
+field_in false w bs = Some 0
+field_in true zero bs = Some 1
 field_in true (suc w) bs =
     let n = little_number (take (suc w) bs) in
-    cond (leb (suc w) (length bs) && stands n) (some n) none
+    cond (leb (suc w) (length bs) && stands n) (Some n) None
 
 unfoldable pub joined : Option ℕ → Option (List ℕ) → Option (List ℕ)
-joined (some n) (some ns) = some (n ∷ ns)
-joined (some n) none = none
-joined none ns = none
+joined (Some n) (Some ns) = Some (n ∷ ns)
+joined (Some n) None = None
+joined None ns = None
 
 abbrev pub odd : ℕ → Bool
 odd m = eqb (m % 2) 1
@@ -176,9 +175,9 @@ odd m = eqb (m % 2) 1
 -- The fields by a map, from the bytes after it. Past the last field nothing is left: no byte, and no bit of the map. With 22 widths that is
 -- "bits 22 to 31 are 0".
 unfoldable pub fields_in : List ℕ → ℕ → List ℕ → Option (List ℕ)
-fields_in [] zero [] = some []
-fields_in [] zero (b ∷ bs) = none
-fields_in [] (suc m) bs = none
+fields_in [] zero [] = Some []
+fields_in [] zero (b ∷ bs) = None
+fields_in [] (suc m) bs = None
 fields_in (w ∷ ws) m bs = joined (field_in (odd m) w bs) (fields_in ws (m / 2) (drop (cond (odd m) w 0) bs))
 
 -- "L is 4 to 126", and the last two bytes are "the sum of length byte and body"
@@ -188,7 +187,7 @@ is_framed L body last = leb 4 L && (leb L 126 && eqb (little_number last) (L + s
 -- the receipt of a record, from its length byte, its body and its last two bytes
 unfoldable pub receipt_in : ℕ → List ℕ → List ℕ → Option Receipt
 receipt_in L body last =
-    cond (is_framed L body last) (bind (fields_in widths (little_number (take 4 body)) (drop 4 body)) receipt_of) none
+    cond (is_framed L body last) (option_and_then receipt_of (fields_in widths (little_number (take 4 body)) (drop 4 body))) None
 
 -- what stands where a record may begin: the end of the file, a receipt with the bytes after its record, or a refusal
 pub data Found : Type 0 where
@@ -197,8 +196,8 @@ pub data Found : Type 0 where
   Refuses : ℕ → Found
 
 unfoldable pub judged : Option Receipt → List ℕ → Found
-judged (some r) rest = Accepts r rest
-judged none rest = Refuses unsound
+judged (Some r) rest = Accepts r rest
+judged None rest = Refuses unsound
 
 -- "122 if it ends past the file; then 123 for any other": 122 comes before the rule on L too
 unfoldable pub entry_in : List ℕ → Found

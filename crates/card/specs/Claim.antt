@@ -1,6 +1,5 @@
 -- What is proved of card files (02, item 1). The quoted sentences are its.
-use Rattle.std.specs.Prelude.{ℕ, ◌+◌, ◌^◌, ◌<◌, ◌≤◌, true, false, List, [], ◌∷◌, ◌++◌, map, ◌⊎◌, ◌≢◌, ◌↔◌, ◌≡◌, ℤ, length, take, drop, get_or}
-use Rattle.std.proofs.Math.Option.{some}
+use Rattle.std.specs.Prelude.{ℕ, ◌+◌, ◌^◌, ◌<◌, ◌≤◌, true, false, List, [], ◌∷◌, ◌++◌, map, ◌⊎◌, ◌≢◌, ◌↔◌, ◌≡◌, ℤ, length, take, drop, get_or, Some, Ok}
 use denote.Laws.{Is}
 use Rattle.std.specs.Int.{w32}
 use mir.Val.{SFits, Val}
@@ -10,7 +9,6 @@ use Rattle.words.specs.Words.{Bytes, little_end, little_number, bytes_of}
 use Rattle.card.specs.Card.{widths, numbers_of, body_of, sum, record_of, records_of, head, card_of, wrong_head, past_end, unsound, Accepts, Refuses, entry_in, holding, has_head, read_card}
 use Rattle.card.specs.Functions.{has_room, written, count, read_at, read_all}
 use Rattle.card.specs.Wire.{wire_words, wire_receipt, Hosted, last_answer, last_place}
-use Rattle.card.specs.declared.Entry.TheVariants as Entry
 
 -- receipts ---------------------------------------------------------------------------------------------------------------
 
@@ -121,11 +119,11 @@ pub record CardClaim : Type 0 where
       → (kept ≡ map (λ (r : Receipt). bytes_of (wire_words r)) (read_card file).receipts) × (n ≡ last_answer (read_card file).answer)
       × (place ≡ last_place file)
   -- A receipt and its 192 bytes of words determine each other.
-  pub words-read : (r : Receipt) → Fits r → wire_receipt (bytes_of (wire_words r)) ≡ some r
-  pub read-words : (bs : List ℕ) (r : Receipt) → Bytes bs → wire_receipt bs ≡ some r → Fits r × (bytes_of (wire_words r) ≡ bs)
+  pub words-read : (r : Receipt) → Fits r → wire_receipt (bytes_of (wire_words r)) ≡ Some r
+  pub read-words : (bs : List ℕ) (r : Receipt) → Bytes bs → wire_receipt bs ≡ Some r → Fits r × (bytes_of (wire_words r) ≡ bs)
   -- Where there was room, what the writer wrote at a place is read there, and the next place is as many bytes on as it answered.
   pub placed : (card : List ℕ) (at : ℕ) (r : Receipt) → Fits r → has_room card at (record_of r) ≡ true
-      → read_at (written card at (record_of r)) at ≡ record { entry = Entry.Accepted; next = at + count card at (record_of r); receipt = r }
+      → read_at (written card at (record_of r)) at ≡ Ok (Some (record { receipt = r; next = at + count card at (record_of r) }))
   -- Every receipt that the code can hold, by the values that a `Receipt` may have, fits its types: it has a record.
   pub held : (r : Receipt) (vs : List Val) → Is the_row r vs → Fits r
   -- A card to which receipts are added is the card of them all. Where the writing of a record is cut, those before it stand.

@@ -1,11 +1,10 @@
 -- 02's sentences on card files (item 1), and what a host is told of them (docs/CARD.md), each from `CardClaim` alone: nothing is used here but that
 -- record and the definitions that it names, so that no part of it can be weakened unnoticed.
 use Prim.Native.Nat.{ℕ, ◌+◌, ◌<◌, ◌≤◌}
-use Rattle.std.specs.Prelude.{Bool, true, false, ◌⊎◌, ◌≢◌, ◌≡◌, refl, eqb, take, drop, get_or}
+use Rattle.std.specs.Prelude.{Some, Ok, Bool, true, false, ◌⊎◌, ◌≢◌, ◌≡◌, refl, eqb, take, drop, get_or}
 use Rattle.std.proofs.lemmas.Bool.{false≢true}
 use mathlib.Core.List.{List, [], ◌∷◌, ◌++◌, map, append-nil}
 use Rattle.std.proofs.Common.{inl, inr, sym, ap, ◌∙◌, take_all}
-use Rattle.std.proofs.Math.Option.{some}
 use native.Mathlib.Omega.{arith}
 use denote.Laws.{Is}
 use borrow.Author.Tests.{le-leb, eqb-true, eqb-false}
@@ -19,7 +18,6 @@ use Rattle.card.specs.Card.{widths, numbers_of, body_of, sum, record_of, records
 use Rattle.card.specs.Functions.{has_room, written, count, read_at, read_all}
 use Rattle.card.specs.Wire.{wire_words, wire_receipt, wire_count, wire_written, Hosted, last_answer, last_place}
 use Rattle.card.specs.Claim.{Fits, AllFit, Reads, CardClaim}
-use Rattle.card.specs.declared.Entry.TheVariants as Entry
 
 -- the receipt that was accepted, and a file's receipts
 abbrev accepted : Found → Receipt → Receipt
@@ -200,17 +198,17 @@ module _ (c : CardClaim) where
 
   -- and a record that is written at a place is read there, and the next place is behind it
   pub read-where-written : (card : List ℕ) (at : ℕ) (r : Receipt) → Fits r → at + 129 ≤ length card
-      → read_at (written card at (record_of r)) at ≡ record { entry = Entry.Accepted; next = at + length (record_of r); receipt = r }
+      → read_at (written card at (record_of r)) at ≡ Ok (Some (record { receipt = r; next = at + length (record_of r) }))
   unfolding count has_room
   read-where-written card at r f h =
       let e = le-leb (at + length (record_of r)) (length card) (omega (arith, (c.sized r).most)) in
       rw e at (c.placed card at r f e)
 
   -- words that are taken for a receipt are that receipt's alone, and its record is read
-  pub one-receipt's-words : (bs ds : List ℕ) (r : Receipt) → Bytes bs → Bytes ds → wire_receipt bs ≡ some r → wire_receipt ds ≡ some r → bs ≡ ds
+  pub one-receipt's-words : (bs ds : List ℕ) (r : Receipt) → Bytes bs → Bytes ds → wire_receipt bs ≡ Some r → wire_receipt ds ≡ Some r → bs ≡ ds
   one-receipt's-words bs ds r b d e k = sym (c.read-words bs r b e).1 ∙ (c.read-words ds r d k).1
 
-  pub taken-and-read : (bs : List ℕ) (r : Receipt) (rest : List ℕ) → Bytes bs → wire_receipt bs ≡ some r → entry_in (record_of r ++ rest) ≡ Accepts r rest
+  pub taken-and-read : (bs : List ℕ) (r : Receipt) (rest : List ℕ) → Bytes bs → wire_receipt bs ≡ Some r → entry_in (record_of r ++ rest) ≡ Accepts r rest
   taken-and-read bs r rest b e = c.written_read r rest (c.read-words bs r b e).0
 
   -- adding ----------------------------------------------------------------------------------------------------------------

@@ -1,6 +1,5 @@
 -- A receipt in words, and what the functions for hosts in other languages do with it.
-use Rattle.std.specs.Prelude.{ℕ, zero, suc, ◌+◌, ◌*◌, ◌/◌, ◌%◌, Bool, true, ◌&&◌, cond, List, [], ◌∷◌, ◌≢◌, ◌≡◌, eqb, leb, ltb, length, take, drop, get_or}
-use Rattle.std.proofs.Math.Option.{Option, some, none}
+use Rattle.std.specs.Prelude.{ℕ, zero, suc, ◌+◌, ◌*◌, ◌/◌, ◌%◌, Bool, true, ◌&&◌, cond, List, [], ◌∷◌, ◌≢◌, ◌≡◌, eqb, leb, ltb, length, take, drop, get_or, Option, Some, None}
 use Rattle.model.specs.declared.Receipt.{Receipt}
 use Rattle.words.specs.Words.{words_at, bytes_of, over}
 use Rattle.card.specs.Card.{numbers_of, nth, receipt_of, record_of, card_of, entry_in, Found, Ends, Accepts, Refuses, has_head, wrong_head, read_card}
@@ -103,18 +102,18 @@ wire_words r = wire_words_from (numbers_of r)
 -- the receipt of 192 bytes; none where there are more or fewer, a word is above its field, or a decision or reason has no number
 unfoldable pub wire_receipt : List ℕ → Option Receipt
 wire_receipt bs =
-    let ws = words_at 24 bs 0 in cond (eqb (length bs) 192 && within ws wire_limits) (receipt_of (wire_numbers ws)) none
+    let ws = words_at 24 bs 0 in cond (eqb (length bs) 192 && within ws wire_limits) (receipt_of (wire_numbers ws)) None
 
 -- one call ---------------------------------------------------------------------------------------------------------------
 
 -- what is written at the front of a card, and how much
 unfoldable pub wire_written : Option Receipt → List ℕ → List ℕ
-wire_written (some r) card = written card 0 (record_of r)
-wire_written none card = card
+wire_written (Some r) card = written card 0 (record_of r)
+wire_written None card = card
 
 unfoldable pub wire_count : Option Receipt → List ℕ → ℕ
-wire_count (some r) card = count card 0 (record_of r)
-wire_count none card = 0
+wire_count (Some r) card = count card 0 (record_of r)
+wire_count None card = 0
 
 -- what is answered, and what stands where the receipt's words go: only an accepted record alters it
 unfoldable pub head_answer : List ℕ → ℕ

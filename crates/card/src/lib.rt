@@ -4,31 +4,39 @@
 // Rests on `model` for the receipts, and on `words` for numbers in bytes.
 #![tactic(auto)]
 
-ghost use Rattle.std.specs.Prelude.{◌+◌, ◌%◌, ◌≤◌, ◌<◌, true, ◌≡◌, length, drop, get_or};
-ghost use Rattle.std.proofs.Math.Option.{none};
+ghost use Rattle.std.specs.Prelude.{◌+◌, ◌%◌, ◌≤◌, ◌<◌, true, ◌≡◌, length, drop, get_or, None, MatchOption};
 ghost use Rattle.words.specs.Signs.{unsigned as unsigned_of};
 ghost use Rattle.words.specs.Words.{words_at, bytes_of, over};
 ghost use Rattle.card.specs.Card.{widths, pair_number, pair_of, bit as bit_of, numbers_of, receipt_with, receipt_of, fields_of, sum as sum_of, record_of, head, field_in, fields_in, is_framed, receipt_in, same, has_head};
-ghost use Rattle.card.specs.Functions.{written, count as count_of, read_at, held_of, fields_held, ZeroFrom, fields_after, or_zero, nothing_at, Plans, Fit};
+ghost use Rattle.card.specs.Functions.{written, counted, count as count_of, error_number, read_at, Reached, Plans, Fit};
 ghost use Rattle.card.specs.Wire.{wire_limits, within, wire_numbers, wire_receipt, wire_words, wire_count, wire_written, head_answer, wire_answer, wire_read};
 
 use model::{Decision, Numbered, NumberedDecision, Reason, Receipt};
 use words::{number, put_number, signed, unsigned, word};
 
-// What stands at a place of a card: an accepted record, the end of the file, or a record that is refused with 122 or 123.
+// An accepted record: its receipt, and the place after it.
 #[derive(Clone, Copy)]
-pub enum Entry {
-    Accepted,
-    End,
-    Refused(u16),
+pub struct Record {
+    pub receipt: Receipt,
+    pub next: usize,
 }
 
-// What reading at a place finds: the receipt of an accepted record and the place after it; else the same place and a blank receipt.
+// Why a record is refused: it ends past the file, or any other rule is broken.
 #[derive(Clone, Copy)]
-pub struct Read {
-    pub entry: Entry,
-    pub next: usize,
-    pub receipt: Receipt,
+pub enum CardError {
+    PastEnd,
+    Unsound,
+}
+
+impl CardError {
+    pub fn number(self) -> u32
+        ensures { result ≡ error_number self }
+    {
+        match self {
+            CardError::PastEnd => 122,
+            CardError::Unsound => 123,
+        }
+    }
 }
 
 // the head ---------------------------------------------------------------------------------------------------------------
@@ -70,16 +78,16 @@ fn put(card: &mut [u8], bytes: &[u8])
     }
 }
 
-// 4; 0 where there is no room, and nothing is written.
-pub fn put_head(card: &mut [u8]) -> usize
-    ensures answer { result ≡ count_of card.old 0 head }
+// 4; none where there is no room, and nothing is written.
+pub fn put_head(card: &mut [u8]) -> Option<usize>
+    ensures answer { result ≡ counted card.old 0 head }
     ensures bytes { card.new ≡ written card.old 0 head }
 {
     if card.len() < 4 {
-        return 0;
+        return None;
     }
     put(card, b"RCT1");
-    4
+    Some(4)
 }
 
 // a receipt as 22 numbers ------------------------------------------------------------------------------------------------
@@ -233,38 +241,18 @@ fn receipt_with(decision: Decision, reason: Reason, numbers: [u64; 22]) -> Recei
     }
 }
 
-// A receipt, or none: then a blank one stands there.
-#[derive(Clone, Copy)]
-struct Held {
-    sound: bool,
-    receipt: Receipt,
-}
-
-fn not_held() -> Held
-    ensures { result ≡ held_of none }
-{
-    Held {
-        sound: false,
-        receipt: Receipt::blank(),
-    }
-}
-
 // None for a decision or a reason that has no number.
-fn receipt_of(numbers: [u64; 22]) -> Held
+fn receipt_of(numbers: [u64; 22]) -> Option<Receipt>
     requires { Fit widths numbers }
-    ensures { result ≡ held_of (receipt_of numbers) }
+    ensures { result ≡ receipt_of numbers }
 {
     let NumberedDecision::Known(decision) = Decision::from_number(low8(numbers[9])) else {
-        return not_held();
+        return None;
     };
     let Numbered::Known(reason) = Reason::from_number(low16(numbers[10])) else {
-        return not_held();
+        return None;
     };
-    let receipt = receipt_with(decision, reason, numbers);
-    Held {
-        sound: true,
-        receipt: receipt,
-    }
+    Some(receipt_with(decision, reason, numbers))
 }
 
 // writing ----------------------------------------------------------------------------------------------------------------
@@ -352,20 +340,17 @@ fn sum_of(bytes: &[u8]) -> u64
     sum as u64
 }
 
-// The length of the record; 0 where there is no room, and nothing is written.
-pub fn put_record(card: &mut [u8], at: usize, r: Receipt) -> usize
-    ensures answer { result ≡ count_of card.old at (record_of r) }
+// The length of the record; none where there is no room, and nothing is written.
+pub fn put_record(card: &mut [u8], at: usize, r: Receipt) -> Option<usize>
+    ensures answer { result ≡ counted card.old at (record_of r) }
     ensures bytes { card.new ≡ written card.old at (record_of r) }
 {
     let numbers = numbers_of(r);
     let plan = plan_of(numbers);
     let length = plan.length;
     let size = length + 3;
-    if at > card.len() {
-        return 0;
-    }
-    if card.len() - at < size {
-        return 0;
+    if at > card.len() || card.len() - at < size {
+        return None;
     }
     let start = at + 1;
     let end = at + length + 1;
@@ -374,137 +359,80 @@ pub fn put_record(card: &mut [u8], at: usize, r: Receipt) -> usize
     put_fields(card, at + 5, numbers);
     let sum = sum_of(&card[at..end]);
     put_number(card, end, 2, sum);
-    size
+    Some(size)
 }
 
 // reading ----------------------------------------------------------------------------------------------------------------
 
-// 22 numbers, or none: then zeros stand there.
-#[derive(Clone, Copy)]
-struct Fields {
-    sound: bool,
-    numbers: [u64; 22],
-}
-
-fn no_fields() -> Fields
-    ensures { result ≡ fields_held none }
-{
-    Fields {
-        sound: false,
-        numbers: [0; 22],
-    }
-}
-
-// The number of a field whose bit stands: 0 where its bytes are missing, or are 0.
-fn field_at(body: &[u8], at: usize, width: usize) -> u64
+// The number of a field whose bit stands: none where its bytes are missing, or are 0.
+fn field_at(body: &[u8], at: usize, width: usize) -> Option<u64>
     requires { (at ≤ length body.now) × (width ≤ 8) }
-    ensures { result ≡ or_zero (field_in true width (drop at body.now)) }
+    ensures { result ≡ field_in true width (drop at body.now) }
 {
     if width == 0 {
-        return 1;
+        return Some(1);
     }
     if body.len() - at < width {
-        return 0;
+        return None;
     }
     let end = at + width;
-    number(&body[at..end])
+    let n = number(&body[at..end]);
+    if n == 0 { None } else { Some(n) }
 }
 
-// How far the reading of the fields has come: the numbers so far, and the bits and the place of the fields to come.
-#[derive(Clone, Copy)]
-struct Gathered {
-    sound: bool,
-    rest: u64,
-    at: usize,
-    numbers: [u64; 22],
-}
-
-fn so_far(sound: bool, rest: u64, at: usize, numbers: [u64; 22]) -> Gathered
-    ensures { result ≡ record { sound = sound; rest = rest; at = at; numbers = numbers } }
+// The ith field, if its bit stands; the place after it.
+#[inline(always)]
+fn read_field(
+    map: u64,
+    body: &[u8],
+    place: usize,
+    i: usize,
+    numbers: &mut [u64; 22],
+) -> Option<usize>
+    requires { (i < 22) × Reached map body.now i place numbers.old }
+    ensures { MatchOption result (None ≡ fields_in widths map body.now) (λ next. Reached map body.now (i + 1) next numbers.new) }
 {
-    Gathered {
-        sound: sound,
-        rest: rest,
-        at: at,
-        numbers: numbers,
-    }
-}
-
-// The ith field, and those before it.
-fn gather(body: &[u8], i: usize, before: Gathered) -> Gathered
-    requires { (i < 22) × (before.at ≤ length body.now) × ZeroFrom i before.numbers }
-    ensures fields { fields_after (i + 1) result body.now ≡ fields_after i before body.now }
-    ensures within { result.at ≤ length body.now }
-    ensures zeros { ZeroFrom (i + 1) result.numbers }
-{
-    if !before.sound {
-        return before;
-    }
-    let mut numbers = before.numbers;
-    let at = before.at;
-    let rest = before.rest / 2;
-    let stands = before.rest % 2 == 1;
-    if !stands {
-        return so_far(true, rest, at, numbers);
+    if (map >> i) % 2 == 0 {
+        return Some(place);
     }
     let width = width(i);
-    let n = field_at(body, at, width);
-    if n == 0 {
-        return so_far(false, rest, at, numbers);
-    }
-    numbers[i] = n;
-    so_far(true, rest, at + width, numbers)
+    numbers[i] = field_at(body, place, width)?;
+    Some(place + width)
 }
 
-// The 22 fields, line by line, as they are written.
-fn gather_all(map: u64, body: &[u8]) -> Gathered
-    ensures fields { fields_after 22 result body.now ≡ fields_in widths map body.now }
-    ensures within { result.at ≤ length body.now }
+// The ith field and the next, so that `fields_in` has 11 steps to prove and not 22.
+#[inline(always)]
+fn read_two(map: u64, body: &[u8], place: usize, i: usize, numbers: &mut [u64; 22]) -> Option<usize>
+    requires { (i < 21) × Reached map body.now i place numbers.old }
+    ensures { MatchOption result (None ≡ fields_in widths map body.now) (λ next. Reached map body.now (i + 1 + 1) next numbers.new) }
 {
-    let begun = so_far(true, map, 0, [0; 22]);
-    let g1 = gather(body, 0, begun);
-    let g2 = gather(body, 1, g1);
-    let g3 = gather(body, 2, g2);
-    let g4 = gather(body, 3, g3);
-    let g5 = gather(body, 4, g4);
-    let g6 = gather(body, 5, g5);
-    let g7 = gather(body, 6, g6);
-    let g8 = gather(body, 7, g7);
-    let g9 = gather(body, 8, g8);
-    let g10 = gather(body, 9, g9);
-    let g11 = gather(body, 10, g10);
-    let g12 = gather(body, 11, g11);
-    let g13 = gather(body, 12, g12);
-    let g14 = gather(body, 13, g13);
-    let g15 = gather(body, 14, g14);
-    let g16 = gather(body, 15, g15);
-    let g17 = gather(body, 16, g16);
-    let g18 = gather(body, 17, g17);
-    let g19 = gather(body, 18, g18);
-    let g20 = gather(body, 19, g19);
-    let g21 = gather(body, 20, g20);
-    gather(body, 21, g21)
+    let next = read_field(map, body, place, i, numbers)?;
+    read_field(map, body, next, i + 1, numbers)
 }
 
-// The fields by their map, from the bytes after it. Past the last field no byte and no bit may be left.
-fn fields_in(map: u64, body: &[u8]) -> Fields
-    ensures { result ≡ fields_held (fields_in widths map body.now) }
+// The fields by their map, from the bytes after it, line by line as they are written. Past the last field no byte and no bit may be left.
+fn fields_in(map: u64, body: &[u8]) -> Option<[u64; 22]>
+    ensures { result ≡ fields_in widths map body.now }
 {
-    let all = gather_all(map, body);
-    if !all.sound {
-        return no_fields();
+    let mut numbers = [0; 22];
+    let mut place = read_two(map, body, 0, 0, &mut numbers)?;
+    place = read_two(map, body, place, 2, &mut numbers)?;
+    place = read_two(map, body, place, 4, &mut numbers)?;
+    place = read_two(map, body, place, 6, &mut numbers)?;
+    place = read_two(map, body, place, 8, &mut numbers)?;
+    place = read_two(map, body, place, 10, &mut numbers)?;
+    place = read_two(map, body, place, 12, &mut numbers)?;
+    place = read_two(map, body, place, 14, &mut numbers)?;
+    place = read_two(map, body, place, 16, &mut numbers)?;
+    place = read_two(map, body, place, 18, &mut numbers)?;
+    place = read_two(map, body, place, 20, &mut numbers)?;
+    if map >> 22 != 0 {
+        return None;
     }
-    if all.rest != 0 {
-        return no_fields();
+    if place != body.len() {
+        return None;
     }
-    if all.at != body.len() {
-        return no_fields();
-    }
-    let numbers = all.numbers;
-    Fields {
-        sound: true,
-        numbers: numbers,
-    }
+    Some(numbers)
 }
 
 // The length is 4 to 126, and the last two bytes are the sum of length byte and body.
@@ -521,56 +449,35 @@ fn is_framed(size: usize, body: &[u8], last: &[u8]) -> bool
     number(last) == (size as u64) + sum_of(body)
 }
 
-fn receipt_in(size: usize, body: &[u8], last: &[u8]) -> Held
+fn receipt_in(size: usize, body: &[u8], last: &[u8]) -> Option<Receipt>
     requires { (length body.now ≡ size) × (length last.now ≡ 2) }
-    ensures { result ≡ held_of (receipt_in size body.now last.now) }
+    ensures { result ≡ receipt_in size body.now last.now }
 {
     if !is_framed(size, body, last) {
-        return not_held();
+        return None;
     }
-    let fields = fields_in(number(&body[..4]), &body[4..]);
-    if !fields.sound {
-        return not_held();
-    }
-    let numbers = fields.numbers;
+    let numbers = fields_in(number(&body[..4]), &body[4..])?;
     receipt_of(numbers)
 }
 
-fn nothing(entry: Entry, at: usize) -> Read
-    ensures { result ≡ nothing_at entry at }
-{
-    Read {
-        entry: entry,
-        next: at,
-        receipt: Receipt::blank(),
-    }
-}
-
-// What stands at a place. 122 comes before the rule on the length.
-pub fn read_at(card: &[u8], at: usize) -> Read
+// The record at a place; none at the end of the file. Past the end comes before the rule on the length.
+pub fn read_at(card: &[u8], at: usize) -> Result<Option<Record>, CardError>
     ensures { result ≡ read_at card.now at }
 {
     let count = card.len();
     if count <= at {
-        return nothing(Entry::End, at);
+        return Ok(None);
     }
     let length = card[at] as usize;
     if count - at < length + 3 {
-        return nothing(Entry::Refused(122), at);
+        return Err(CardError::PastEnd);
     }
     let start = at + 1;
     let end = start + length;
     let next = end + 2;
     let held = receipt_in(length, &card[start..end], &card[end..next]);
-    if !held.sound {
-        return nothing(Entry::Refused(123), at);
-    }
-    let receipt = held.receipt;
-    Read {
-        entry: Entry::Accepted,
-        next: next,
-        receipt: receipt,
-    }
+    let receipt = held.ok_or(CardError::Unsound)?;
+    Ok(Some(Record { receipt, next }))
 }
 
 // for hosts in other languages -------------------------------------------------------------------------------------------
@@ -676,15 +583,15 @@ fn numbers_in(words: [u64; 24]) -> [u64; 22]
 }
 
 // The receipt that 24 words stand for.
-fn receipt_at(bytes: &[u8]) -> Held
-    ensures { result ≡ held_of (wire_receipt bytes.now) }
+fn receipt_at(bytes: &[u8]) -> Option<Receipt>
+    ensures { result ≡ wire_receipt bytes.now }
 {
     if bytes.len() != 192 {
-        return not_held();
+        return None;
     }
     let words = words_in(bytes);
     if !are_within(words) {
-        return not_held();
+        return None;
     }
     receipt_of(numbers_in(words))
 }
@@ -737,7 +644,7 @@ pub fn rolthai_card_head(card: &mut [u8]) -> usize
     ensures answer { result ≡ count_of card.old 0 head }
     ensures bytes { card.new ≡ written card.old 0 head }
 {
-    put_head(card)
+    put_head(card).unwrap_or(0)
 }
 
 // The record of a receipt's 24 words (docs/WIRE.md), at the front of the card. 0, and nothing written: no room, not 192 bytes, a word above
@@ -746,12 +653,10 @@ pub fn rolthai_card_write(receipt: &[u8], card: &mut [u8]) -> usize
     ensures answer { result ≡ wire_count (wire_receipt receipt.now) card.old }
     ensures bytes { card.new ≡ wire_written (wire_receipt receipt.now) card.old }
 {
-    let held = receipt_at(receipt);
-    if !held.sound {
+    let Some(found) = receipt_at(receipt) else {
         return 0;
-    }
-    let found = held.receipt;
-    put_record(card, 0, found)
+    };
+    put_record(card, 0, found).unwrap_or(0)
 }
 
 // 0, or 121.
@@ -776,15 +681,12 @@ pub fn rolthai_card_read(card: &[u8], at: usize, receipt: &mut [u8]) -> u32
     if receipt.len() < 192 {
         return 2;
     }
-    let read = read_at(card, at);
-    let entry = read.entry;
-    let found = read.receipt;
-    match entry {
-        Entry::Accepted => {
-            put_words(receipt, words_of(found));
+    match read_at(card, at) {
+        Ok(Some(record)) => {
+            put_words(receipt, words_of(record.receipt));
             0
         }
-        Entry::End => 1,
-        Entry::Refused(n) => n as u32,
+        Ok(None) => 1,
+        Err(error) => error.number(),
     }
 }

@@ -1,20 +1,20 @@
-use borrow.Author.Rules.{rules}
-use Prim.Native.Nat.{◌+◌, ◌-◌, ◌≤◌}
+use Prim.Native.Nat.{◌+◌, ◌-◌, ◌<◌, ◌≤◌}
 use mathlib.Core.Path.{◌≡◌, ◌∙◌}
 use native.Mathlib.Omega.{arith}
 use lib.ListN.{length, length-set}
 use Rattle.card.proofs.Placed.{no_record, record-placed}
+use Rattle.card.proofs.put_record.Goals.{then-at-card-via-then-at-card, then-at-card-via-else-at-card+then-card-at}
 use Rattle.card.proofs.put_record.Goals as goal
 
 -- the card keeps its length
 pub returns-then-at-card : goal.returns-then-at-card
 returns-then-at-card c =
-    let w = no_record c.args.r _ c.numbers_of-numbers.ensures _ c.plan_of-plan.ensures c.args.card.now c.args.at (search rules) in
-    record { answer = w.0; bytes = w.1 }
-
-pub returns-then-card-at : goal.returns-then-card-at
-returns-then-card-at c =
-    let w = no_record c.args.r _ c.numbers_of-numbers.ensures _ c.plan_of-plan.ensures c.args.card.now c.args.at (search rules) in
+    let short : length c.args.card.now < c.args.at + (c.plan_of-plan.result.length + 3) =
+    elim c.then-at-card.branch [
+      | then-at-card-via-then-at-card w ↦ omega arith
+      | then-at-card-via-else-at-card+then-card-at w ↦ omega arith
+    ] in
+    let w = no_record c.args.r _ c.numbers_of-numbers.ensures _ c.plan_of-plan.ensures c.args.card.now c.args.at short in
     record { answer = w.0; bytes = w.1 }
 
 pub put_number-requires : goal.put_number-requires

@@ -1,36 +1,22 @@
-use mathlib.Core.Path.{◌∙◌}
+use mathlib.Core.Path.{sym, ap, ◌∙◌}
+use Rattle.std.proofs.lemmas.Grind.{common_steps}
+use Rattle.std.specs.Result.{result_ok}
 use native.Mathlib.Omega.{arith}
-use borrow.Author.Tests.{not-true, not-false}
 use Rattle.card.proofs.Entries.{at-end, past_end, refused, accepted}
 use Rattle.card.proofs.read_at.Goals as goal
 
 pub returns-then-count-at : goal.returns-then-count-at
-returns-then-count-at c = c.nothing.ensures ∙ at-end c.args.card.now c.args.at c.if-count-at.true
-
-pub overflow_cast-length : goal.overflow_cast-length
-overflow_cast-length c = omega (arith, c.shared_slice_known-2-1.given c.args.at)
-
-pub overflow_add-length : goal.overflow_add-length
-overflow_add-length c = omega (arith, c.shared_slice_known-2-1.given c.args.at)
+returns-then-count-at c = at-end c.args.card.now c.args.at c.if-count-at.true
 
 pub returns-then-count-at-2 : goal.returns-then-count-at-2
-returns-then-count-at-2 c =
-    let e = c.before.before.before in
-    let s = e in
-    c.nothing-then-count-at-2.ensures ∙ past_end c.args.card.now c.args.at c.if-count-at.false c.if-count-at-2.true
+returns-then-count-at-2 c = past_end c.args.card.now c.args.at c.if-count-at.false c.if-count-at-2.true
 
-pub returns-then-not-held : goal.returns-then-not-held
-returns-then-not-held c =
-    let r = c.before.before.before in
-    let m = r in
-    let e = m in
-    let s = e in
-    c.nothing-then-not-held.ensures ∙ refused c.args.card.now c.args.at c.if-count-at.false c.if-count-at-2.false c.receipt_in-held.ensures (not-true _ c.if-not-held.true)
+pub returns-in_err-receipt : goal.returns-in_err-receipt
+returns-in_err-receipt c =
+    let n = c.ok_or.ensures.ok_part ∙ ap result_ok c.in_err-receipt.was in
+    let r = refused c.args.card.now c.args.at c.if-count-at.false c.if-count-at-2.false c.receipt_in-held.ensures n in
+    let e = sym c.ok_or.ensures.value ∙ c.in_err-receipt.was in
+    let h = c.from_residual.ensures in grind (arith, common_steps, r, n, e, h)
 
 pub returns : goal.returns
-returns c =
-    let r = c.before.before.before in
-    let m = r in
-    let e = m in
-    let s = e in
-    accepted c.args.card.now c.args.at c.if-count-at.false c.if-count-at-2.false c.receipt_in-held.ensures _ (omega arith) (not-false _ c.if-not-held.false)
+returns c = accepted c.args.card.now c.args.at c.if-count-at.false c.if-count-at-2.false c.receipt_in-held.ensures _ _ (omega arith) (c.ok_or.ensures.ok_part ∙ ap result_ok c.in_ok-receipt.was)

@@ -10,20 +10,20 @@ returns-then-receipt-lt192 c =
     let w = too_short c.args.card.now c.args.at c.args.receipt.now c.if-at-lt4.false c.if-receipt-lt192.true in
     record { answer = w.0; bytes = w.1 }
 
-pub returns-in-Accepted : goal.returns-in-Accepted
+pub returns-in-Ok-Some : goal.returns-in-Ok-Some
 unfolding answer_by read_by
-returns-in-Accepted c =
-    let w = at-record c.args.card.now c.args.at c.args.receipt.now c.if-at-lt4.false c.if-receipt-lt192.false c.read_at-read.ensures in
-    let v = rw c.in-Accepted.is at w in record { answer = v.0; bytes = c.put_words.ensures ∙ rw c.words_of.ensures v.1 }
+returns-in-Ok-Some c =
+    let w = at-record c.args.card.now c.args.at c.args.receipt.now c.if-at-lt4.false c.if-receipt-lt192.false c.read_at.ensures in
+    let v = rw (c.in-Ok-Some.is, c.in-Ok-Some.field-0-is) at w in record { answer = v.0; bytes = c.put_words.ensures ∙ rw c.words_of.ensures v.1 }
 
-pub returns-in-End : goal.returns-in-End
+pub returns-in-Ok-None : goal.returns-in-Ok-None
 unfolding answer_by read_by
-returns-in-End c =
-    let w = at-record c.args.card.now c.args.at c.args.receipt.now c.if-at-lt4.false c.if-receipt-lt192.false c.read_at-read.ensures in
-    let v = rw c.in-End.is at w in record { answer = v.0; bytes = v.1 }
+returns-in-Ok-None c =
+    let w = at-record c.args.card.now c.args.at c.args.receipt.now c.if-at-lt4.false c.if-receipt-lt192.false c.read_at.ensures in
+    let v = rw (c.in-Ok-None.is, c.in-Ok-None.field-0-is) at w in record { answer = v.0; bytes = v.1 }
 
-pub returns-in-Refused : goal.returns-in-Refused
+pub returns-in-Err : goal.returns-in-Err
 unfolding answer_by read_by
-returns-in-Refused c =
-    let w = at-record c.args.card.now c.args.at c.args.receipt.now c.if-at-lt4.false c.if-receipt-lt192.false c.read_at-read.ensures in
-    let v = rw c.in-Refused.is at w in record { answer = v.0; bytes = v.1 }
+returns-in-Err c =
+    let w = at-record c.args.card.now c.args.at c.args.receipt.now c.if-at-lt4.false c.if-receipt-lt192.false c.read_at.ensures in
+    let v = rw c.in-Err.is at w in record { answer = c.number.ensures ∙ v.0; bytes = v.1 }

@@ -1,4 +1,0 @@
-use Rattle.card.proofs.nothing.Goals as goal
-
-pub returns : goal.returns
-returns c = rw c.blank.ensures
