@@ -1,6 +1,6 @@
 -- What the decisions on leases are shown, and the state with a grant or a renewal stored.
 use Rattle.std.specs.Prelude.{ℕ, ◌≡◌, get_or, set}
-use Rattle.std.proofs.Math.Option.{Option, some, none}
+use Rattle.std.specs.Prelude.{Option, Some, None}
 use Rattle.model.specs.declared.Lease.{Lease}
 use Rattle.model.specs.declared.LeaseSlot.{LeaseSlot}
 use Rattle.rules.specs.Admission.{allowed}
@@ -16,12 +16,12 @@ use Rattle.decide_lease.specs.declared.Renewing.{Renewing}
 -- the capabilities of the axis that a request names, as bits, and what stands in its slot
 pub record ShowsAxis (axis mask : ℕ) (slot : LeaseSlot) (t : Tables) : Type 0 where
   pub allowed : mask ≡ allowed t.capabilities axis
-  pub shown : lease_in slot ≡ get_or t.leases axis none
+  pub shown : lease_in slot ≡ get_or t.leases axis None
 
 -- the axis of the lease with this owner and id, or 8, and what stands in its slot
 pub record ShowsHeld (owner id axis : ℕ) (slot : LeaseSlot) (t : Tables) : Type 0 where
   pub first : axis ≡ first_held owner id t.leases
-  pub shown : lease_in slot ≡ get_or t.leases axis none
+  pub shown : lease_in slot ≡ get_or t.leases axis None
 
 abbrev pub leased_at : ℕ → Option Lease → Tables → Tables
 leased_at axis l t =
@@ -70,9 +70,9 @@ granted g axis s =
 
 -- a lease with another end and number of renewal
 unfoldable pub lengthened_to : ℕ → ℕ → Option Lease → Option Lease
-lengthened_to end renewal none = none
-lengthened_to end renewal (some l) =
-    some
+lengthened_to end renewal None = None
+lengthened_to end renewal (Some l) =
+    Some
     (record {
       id = l.id;
       owner = l.owner;
@@ -90,4 +90,4 @@ lengthened r axis renewal s =
     recorded r.receipt AfterRecord.Lease
     (state s.fixed
     (numbers_with s.numbers.next_lease s.numbers.epoch s.numbers.mode s.numbers.held r.soonest s.numbers)
-    (leased_at axis (lengthened_to r.expires_at renewal (get_or s.tables.leases axis none)) s.tables) s.asked (answering axis s.hand))
+    (leased_at axis (lengthened_to r.expires_at renewal (get_or s.tables.leases axis None)) s.tables) s.asked (answering axis s.hand))

@@ -4,7 +4,7 @@
 #![tactic(auto)]
 
 ghost use Rattle.std.specs.Prelude.{ℕ, ◌+◌, ◌≤◌, ◌<◌, ◌^◌, cond, ◌≡◌, eqb, leb, get_or, drop};
-ghost use Rattle.std.proofs.Math.Option.{none};
+ghost use Rattle.std.specs.Prelude.{None};
 ghost use Rattle.std.specs.Int.Bits.{bit_or};
 ghost use Rattle.rules.specs.Admission.{first_failing, holds_of, is_held_by, bad_duration, valid_request, acquire_checks, renew_checks, held_axis};
 ghost use Rattle.rules.specs.Protocol.{proceed};
@@ -166,7 +166,7 @@ pub struct Granting {
 // The lease stands, the epoch is bumped and the state refreshed; then its receipt.
 pub fn granted(fixed: Fixed, numbers: Numbers, request: LeaseRequest, now: u64) -> Granting
     requires { (request.resource < 8) × (now + request.duration_ms ≤ top) }
-    ensures { (t : Tables) (q : Asked) (h : Hand) → Sound (state fixed numbers t q h) → get_or t.leases request.resource none ≡ none → Moves (granted_in result request.resource (state fixed numbers t q h)) Item (proceed (grant none request now (book_of fixed numbers t))) }
+    ensures { (t : Tables) (q : Asked) (h : Hand) → Sound (state fixed numbers t q h) → get_or t.leases request.resource None ≡ None → Moves (granted_in result request.resource (state fixed numbers t q h)) Item (proceed (grant None request now (book_of fixed numbers t))) }
 {
     let id = numbers.next_lease;
     let mode = numbers.mode;
@@ -282,7 +282,7 @@ pub fn renewed(
     renewal: Renewal,
 ) -> Renewing
     requires { (axis < 8) × (renewal.now + renewal.duration_ms ≤ top) }
-    ensures { (t : Tables) (q : Asked) (h : Hand) → Sound (state fixed numbers t q h) → ShowsHeld renewal.owner renewal.lease_id axis slot t → Moves (lengthened_in result axis renewal.renewal (state fixed numbers t q h)) Item (proceed (renewed_rule none renewal (book_of fixed numbers t))) }
+    ensures { (t : Tables) (q : Asked) (h : Hand) → Sound (state fixed numbers t q h) → ShowsHeld renewal.owner renewal.lease_id axis slot t → Moves (lengthened_in result axis renewal.renewal (state fixed numbers t q h)) Item (proceed (renewed_rule None renewal (book_of fixed numbers t))) }
 {
     let lease = slot.lease;
     let end = renewal.now + renewal.duration_ms as u64;

@@ -1,7 +1,7 @@
 -- Lists of checks, group by group. Assumes nothing.
 use mathlib.Core.Bool.{Bool, true, false, cond, not}
 use mathlib.Core.List.{List, [], ◌∷◌, ◌++◌}
-use mathlib.Core.Option.{Option, some, none}
+use Rattle.std.specs.Prelude.{Option, Some, None}
 use mathlib.Core.Path.{◌≡◌, refl, sym}
 use lib.Dec.{ltb}
 use Rattle.model.specs.declared.Capability.{Capability}
@@ -34,8 +34,8 @@ answer-append [] ys = refl
 answer-append (x ∷ xs) ys = by_first x.holds (answer-append xs ys)
   where
     by_first : (t : Bool) → answer (xs ++ ys) ≡ and_then (answer xs) (answer ys)
-        → check_of (cond t (first_failing (xs ++ ys)) (some x.reason))
-        ≡ and_then (check_of (cond t (first_failing xs) (some x.reason))) (answer ys)
+        → check_of (cond t (first_failing (xs ++ ys)) (Some x.reason))
+        ≡ and_then (check_of (cond t (first_failing xs) (Some x.reason))) (answer ys)
     by_first true e = e
     by_first false e = refl
 
@@ -48,8 +48,8 @@ module _ (xs ys : List Rules.Check) {x : Check} (e : x ≡ answer xs) where
 
 -- the answer tells the first that fails
 pub same-failure : (o p : Option Reason) → check_of o ≡ check_of p → o ≡ p
-same-failure none p e = sym (none-failed p e)
-same-failure (some reason) p e = sym (some-failed p reason e)
+same-failure None p e = sym (none-failed p e)
+same-failure (Some reason) p e = sym (some-failed p reason e)
 
 -- the groups -------------------------------------------------------------------------------------------------------------
 
@@ -63,7 +63,7 @@ module _ (s : Submission) (b : Book) where
   unfolding admission ready identity_checks authority_checks form_checks
   early-groups p q = rw (p, q)
 
-  pub late-groups : {c : Capability} {l : Lease} → order_capability s b ≡ some c → order_lease s b ≡ some l
+  pub late-groups : {c : Capability} {l : Lease} → order_capability s b ≡ Some c → order_lease s b ≡ Some l
       → late_checks s b ≡ sequence_checks s l ++ (time_checks s ++ state_checks s b.epoch b.flags c l)
   unfolding admission ready holds_of sequence_checks time_checks state_checks
   late-groups p q = rw (p, q)

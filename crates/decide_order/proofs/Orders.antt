@@ -1,7 +1,7 @@
 -- What a rejection and an admission leave stored is what the rules say. Assumes nothing.
 use Prim.Native.Nat.{ℕ, ◌<◌}
 use mathlib.Core.Bool.{true}
-use mathlib.Core.Option.{some, none}
+use Rattle.std.specs.Prelude.{Some, None}
 use mathlib.Core.Path.{◌≡◌, refl, sym, ap, ◌∙◌}
 use native.Mathlib.Omega.{arith}
 use lib.ListN.{get_or}
@@ -47,17 +47,17 @@ module _ (f : Fixed) (n : Numbers) (t : Tables) (q : Asked) (h : Hand) (s : Subm
       }
 
   module _ (c : Capability) (slot : LeaseSlot) (k : ShowsOrder s.action.capability true c slot t) where
-    admits-so : slot.presence ≡ Present → first_failing (admission s (book_of f n t)) ≡ none → validate s (book_of f n t) ≡ Admits c slot.lease
+    admits-so : slot.presence ≡ Present → first_failing (admission s (book_of f n t)) ≡ None → validate s (book_of f n t) ≡ Admits c slot.lease
     unfolding validate verdict
     admits-so p e = rw (e, record-shown s f n t k p, lease-present s f n t k p)
 
-    pub admits : (a : Admitting) → first_failing (admission s (book_of f n t)) ≡ none → a.end ≡ stream_end slot.lease s
+    pub admits : (a : Admitting) → first_failing (admission s (book_of f n t)) ≡ None → a.end ≡ stream_end slot.lease s
         → a.entry ≡ record { owner = s.principal; action_id = s.action.action_id; receipt = n.next_receipt }
         → Moves (admitted a c s.action.sequence (state f n t q h)) Item (proceed (admit (validate s (book_of f n t)) s (book_of f n t)))
     unfolding admitted sequenced reaction_of output_of item_at phase_of phase_at book_of proceed admit consumed with_replay with_leases is_some with_sequence
     admits a e p m =
         let present = (admitted-stand s f n t k e).1 in
-        let there : get_or t.leases c.resource none ≡ some slot.lease = sym (k.shown refl) ∙ ap (λ x. lease_if x slot.lease) present in
+        let there : get_or t.leases c.resource None ≡ Some slot.lease = sym (k.shown refl) ∙ ap (λ x. lease_if x slot.lease) present in
         let low : c.resource < 8 = omega (arith, (found-sound t.capabilities s.action.capability c sound.checked.each k.found).0) in
         let stored = with_sequence s.action.sequence slot.lease in
         record {

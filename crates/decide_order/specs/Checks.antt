@@ -1,7 +1,7 @@
 -- The checks of an order in two parts, before and after the search in the replay ring (01, "An order"; runtime.rs, `validate`), and the
 -- groups that the code makes. A law (proofs/Groups) says that the parts are readiness and the groups.
 use Rattle.std.specs.Prelude.{ℕ, Bool, not, ◌&&◌, List, [], ◌∷◌, ltb, leb, eqb, take, drop}
-use Rattle.std.proofs.Math.Option.{Option}
+use Rattle.std.specs.Prelude.{Option}
 use Rattle.model.specs.declared.Capability.{Capability}
 use Rattle.model.specs.declared.Lease.{Lease}
 use Rattle.model.specs.declared.Reason.TheVariants.{Bound, Stale, Authority, Precondition, OldSequence, Epoch, UnknownCapability, TooEarly, Invalid, BootMismatch}

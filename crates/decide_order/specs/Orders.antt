@@ -1,6 +1,6 @@
 -- What the decisions on an order are shown, and the state with a rejection or an admission stored.
 use Rattle.std.specs.Prelude.{ℕ, Bool, true, cond, ◌∷◌, ◌≡◌, get_or, set, take}
-use Rattle.std.proofs.Math.Option.{Option, some, none}
+use Rattle.std.specs.Prelude.{Option, Some, None}
 use Rattle.model.specs.declared.Capability.{Capability}
 use Rattle.model.specs.declared.Lease.{Lease}
 use Rattle.model.specs.declared.LeaseSlot.{LeaseSlot}
@@ -20,16 +20,16 @@ use Rattle.decide_order.specs.declared.Rejecting.{Rejecting}
 
 -- what a slot of the replay ring holds
 abbrev pub entry_if : Presence → Replay → Option Replay
-entry_if Absent e = none
-entry_if Present e = some e
+entry_if Absent e = None
+entry_if Present e = Some e
 
 abbrev pub entry_in : ReplaySlot → Option Replay
 entry_in s = entry_if s.presence s.replay
 
 -- the first record with the id that an order names, if there is one, and what stands in the slot of its axis
 pub record ShowsOrder (id : ℕ) (known : Bool) (c : Capability) (slot : LeaseSlot) (t : Tables) : Type 0 where
-  pub found : with_id id t.capabilities ≡ cond known (some c) none
-  pub shown : known ≡ true → lease_in slot ≡ get_or t.leases c.resource none
+  pub found : with_id id t.capabilities ≡ cond known (Some c) None
+  pub shown : known ≡ true → lease_in slot ≡ get_or t.leases c.resource None
 
 abbrev pub counting_to : ℕ → Numbers → Numbers
 counting_to count n =
@@ -53,8 +53,8 @@ rejected r s =
     recorded r.receipt AfterRecord.Rejected (state s.fixed (counting_to r.invalid_count s.numbers) s.tables s.asked s.hand)
 
 unfoldable pub sequenced : ℕ → Option Lease → Option Lease
-sequenced sequence none = none
-sequenced sequence (some l) = some (with_sequence sequence l)
+sequenced sequence None = None
+sequenced sequence (Some l) = Some (with_sequence sequence l)
 
 -- an admission stored: the sequence of the lease on the axis, the replay entry, the order in hand, and the first observation's reply awaited
 unfoldable pub admitted : Admitting → Capability → ℕ → State → State
@@ -62,7 +62,7 @@ admitted a c sequence s =
     state s.fixed s.numbers
     (record {
       capabilities = s.tables.capabilities;
-      leases = set s.tables.leases c.resource (sequenced sequence (get_or s.tables.leases c.resource none));
+      leases = set s.tables.leases c.resource (sequenced sequence (get_or s.tables.leases c.resource None));
       active = s.tables.active;
       replay = take replay_capacity (a.entry ∷ s.tables.replay);
       receipts = s.tables.receipts;

@@ -4,7 +4,7 @@
 #![tactic(auto)]
 
 ghost use Rattle.std.specs.Prelude.{◌≤◌, Bool, true, cond, ◌≡◌};
-ghost use Rattle.std.proofs.Math.Option.{some, none};
+ghost use Rattle.std.specs.Prelude.{Some, None};
 ghost use Rattle.model.specs.declared.Presence.TheVariants.{Present};
 ghost use Rattle.rules.specs.Admission.{first_failing, holds_of, is_some, authorizes, well_formed, is_entry, replayed, valid_until, all_contain, admission, order_capability, validate};
 ghost use Rattle.rules.specs.Book.{Book};
@@ -60,7 +60,7 @@ fn is_authorized(lease: Lease, submission: Submission) -> bool
 
 // 8 no such capability; 3 no lease, other id, other owner, capability bit clear.
 fn authority_check(known: bool, slot: LeaseSlot, submission: Submission) -> Check
-    ensures { (known ≡ true → submission.action.capability ≤ 63) → result ≡ check_of (first_failing (authority_checks submission known (cond known (lease_in slot) none))) }
+    ensures { (known ≡ true → submission.action.capability ≤ 63) → result ≡ check_of (first_failing (authority_checks submission known (cond known (lease_in slot) None))) }
 {
     let held = slot.presence;
     let lease = slot.lease;
@@ -272,7 +272,7 @@ pub fn is_hit(slot: ReplaySlot, owner: u64, action_id: u64) -> bool
 
 // The axis of the capability that an order names, or 255.
 pub fn resource_of(known: bool, capability: Capability) -> u8
-    ensures { result ≡ axis_or255 (cond known (some capability) none) }
+    ensures { result ≡ axis_or255 (cond known (Some capability) None) }
 {
     if known {
         return capability.resource;
@@ -349,7 +349,7 @@ pub struct Admitting {
 // Sequence and replay entry are stored before the driver is called: an order whose outcome is not known is never tried again.
 pub fn admitted(numbers: Numbers, slot: LeaseSlot, submission: Submission) -> Admitting
     requires { valid_until submission ≤ top }
-    ensures { (f : Fixed) (t : Tables) (q : Asked) (h : Hand) (c : Capability) → Sound (state f numbers t q h) → q.submission ≡ submission → ShowsOrder submission.action.capability true c slot t → first_failing (admission submission (book_of f numbers t)) ≡ none → Moves (admitted_in result c submission.action.sequence (state f numbers t q h)) Item (proceed (admit (validate submission (book_of f numbers t)) submission (book_of f numbers t))) }
+    ensures { (f : Fixed) (t : Tables) (q : Asked) (h : Hand) (c : Capability) → Sound (state f numbers t q h) → q.submission ≡ submission → ShowsOrder submission.action.capability true c slot t → first_failing (admission submission (book_of f numbers t)) ≡ None → Moves (admitted_in result c submission.action.sequence (state f numbers t q h)) Item (proceed (admit (validate submission (book_of f numbers t)) submission (book_of f numbers t))) }
 {
     let lease = slot.lease;
     let action = submission.action;

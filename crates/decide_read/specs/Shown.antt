@@ -1,6 +1,6 @@
 -- What a host is shown, as equations, and what it says in the rules' words: what is absent is blank.
 use Rattle.std.specs.Prelude.{ℕ, Bool, true, false, cond, List, [], ◌∷◌, ◌≡◌, ltb, ℤ, pos, Option, Some, None}
-use Rattle.std.proofs.Math.Option.{some, none}
+use Rattle.std.specs.Prelude.{Some, None}
 use Rattle.std.proofs.Math.Option as maybe
 use Rattle.model.specs.declared.Capability.{Capability}
 use Rattle.model.specs.declared.Config.{Config}
@@ -95,8 +95,8 @@ snapshot_at there f n retained = record { runtime = presence_of there; snapshot 
 
 -- a slot of what may be missing: an absent one holds a blank lease
 unfoldable pub slot_with : maybe.Option Lease → LeaseSlot
-slot_with none = no_lease
-slot_with (some l) = record { presence = Present; lease = l }
+slot_with None = no_lease
+slot_with (Some l) = record { presence = Present; lease = l }
 
 abbrev pub lease_shown_at : Bool → maybe.Option Lease → LeaseShown
 lease_shown_at there l = record { runtime = presence_of there; slot = cond there (slot_with l) no_lease }
@@ -145,8 +145,8 @@ shown_if Absent v = NoRuntime
 shown_if Present v = Shows v
 
 abbrev value_if : {A : Type 0} → Presence → A → maybe.Option A
-value_if Absent x = none
-value_if Present x = some x
+value_if Absent x = None
+value_if Present x = Some x
 
 abbrev pub number_says : NumberShown → Output
 number_says r = shown_if r.runtime (OfNumber r.number)
@@ -180,17 +180,17 @@ item_with kind axis reason capability parameters receipt =
 
 -- an item of the rules, or none, with blanks for what it has not
 unfoldable pub shown_item : maybe.Option Protocol.Item → ItemShown
-shown_item none = item_with ItemKind.Nothing 0 Ok 0 no_parameters no_receipt
-shown_item (some (ItemObserve axis)) = item_with ItemKind.Observe axis Ok 0 no_parameters no_receipt
-shown_item (some (ItemExecute c ps)) = item_with ItemKind.Execute 0 Ok c ps no_receipt
-shown_item (some (ItemFallback axis reason)) = item_with ItemKind.Fallback axis reason 0 no_parameters no_receipt
-shown_item (some (ItemRecord r)) = item_with ItemKind.Record 0 Ok 0 no_parameters r
+shown_item None = item_with ItemKind.Nothing 0 Ok 0 no_parameters no_receipt
+shown_item (Some (ItemObserve axis)) = item_with ItemKind.Observe axis Ok 0 no_parameters no_receipt
+shown_item (Some (ItemExecute c ps)) = item_with ItemKind.Execute 0 Ok c ps no_receipt
+shown_item (Some (ItemFallback axis reason)) = item_with ItemKind.Fallback axis reason 0 no_parameters no_receipt
+shown_item (Some (ItemRecord r)) = item_with ItemKind.Record 0 Ok 0 no_parameters r
 
 -- the awaited item by what is kept of it
 unfoldable pub item_from : Awaited → Falling → Capability → List ℤ → Receipt → ItemShown
-item_from Awaited.Nothing f c ps r = shown_item none
-item_from Awaited.ObserveBefore f c ps r = shown_item (some (ItemObserve c.resource))
-item_from Awaited.Execute f c ps r = shown_item (some (ItemExecute c.id ps))
-item_from Awaited.ObserveAfter f c ps r = shown_item (some (ItemObserve c.resource))
-item_from Awaited.Fallback f c ps r = shown_item (some (ItemFallback f.axis f.reason))
-item_from Awaited.Record f c ps r = shown_item (some (ItemRecord r))
+item_from Awaited.Nothing f c ps r = shown_item None
+item_from Awaited.ObserveBefore f c ps r = shown_item (Some (ItemObserve c.resource))
+item_from Awaited.Execute f c ps r = shown_item (Some (ItemExecute c.id ps))
+item_from Awaited.ObserveAfter f c ps r = shown_item (Some (ItemObserve c.resource))
+item_from Awaited.Fallback f c ps r = shown_item (Some (ItemFallback f.axis f.reason))
+item_from Awaited.Record f c ps r = shown_item (Some (ItemRecord r))

@@ -2,7 +2,7 @@
 use Prim.Native.Nat.{ℕ}
 use mathlib.Core.Bool.{Bool, true, false, cond}
 use mathlib.Core.List.{List, [], ◌∷◌, ◌++◌}
-use mathlib.Core.Option.{Option, some, none}
+use Rattle.std.specs.Prelude.{Option, Some, None}
 use mathlib.Core.Path.{◌≡◌, refl, ap, ◌∙◌}
 use native.Mathlib.Omega.{arith}
 use Rattle.model.specs.declared.LeaseRequest.{LeaseRequest}
@@ -14,13 +14,13 @@ use Rattle.decide_ready.specs.declared.Check.TheVariants.{Passed, Failed}
 use Rattle.decide_ready.specs.Checks.{check_of, after_ready}
 
 -- what the answer says of the first that fails
-pub none-failed : (o : Option Reason) → Passed ≡ check_of o → o ≡ none
-none-failed none e = refl
-none-failed (some r) e = cc
+pub none-failed : (o : Option Reason) → Passed ≡ check_of o → o ≡ None
+none-failed None e = refl
+none-failed (Some r) e = cc
 
-pub some-failed : (o : Option Reason) (reason : Reason) → Failed reason ≡ check_of o → o ≡ some reason
-some-failed none reason e = cc
-some-failed (some r) reason e = cc
+pub some-failed : (o : Option Reason) (reason : Reason) → Failed reason ≡ check_of o → o ≡ Some reason
+some-failed None reason e = cc
+some-failed (Some r) reason e = cc
 
 module _ (ys : List Check) where
   failed-first : (xs : List Check) (reason : Reason) → check_of (first_failing xs) ≡ Failed reason → check_of (first_failing (xs ++ ys)) ≡ Failed reason
@@ -30,8 +30,8 @@ module _ (ys : List Check) where
     where
       go : (t : Bool)
           → (check_of (first_failing xs) ≡ Failed reason → check_of (first_failing (xs ++ ys)) ≡ Failed reason)
-          → check_of (cond t (first_failing xs) (some x.reason)) ≡ Failed reason
-          → check_of (cond t (first_failing (xs ++ ys)) (some x.reason)) ≡ Failed reason
+          → check_of (cond t (first_failing xs) (Some x.reason)) ≡ Failed reason
+          → check_of (cond t (first_failing (xs ++ ys)) (Some x.reason)) ≡ Failed reason
       go true rest h = rest h
       go false rest h = h
 
@@ -42,8 +42,8 @@ module _ (ys : List Check) where
     where
       go : (t : Bool)
           → (check_of (first_failing xs) ≡ Passed → first_failing (xs ++ ys) ≡ first_failing ys)
-          → check_of (cond t (first_failing xs) (some x.reason)) ≡ Passed
-          → cond t (first_failing (xs ++ ys)) (some x.reason) ≡ first_failing ys
+          → check_of (cond t (first_failing xs) (Some x.reason)) ≡ Passed
+          → cond t (first_failing (xs ++ ys)) (Some x.reason) ≡ first_failing ys
       go true rest h = rest h
       go false rest h = let z : ◌≡◌ {A = ℕ} 0 1 = cc in absurd (omega arith)
 

@@ -3,7 +3,9 @@ use Prim.Native.Nat.{ℕ, zero, suc, ◌≤◌, min}
 use mathlib.Core.Bool.{Bool, true, cond}
 use mathlib.Core.List.{List, [], ◌∷◌}
 use mathlib.Core.Logic.{◌⊎◌, inl, inr}
-use mathlib.Core.Option.{Option, some, none, none-ne-some, some-injective}
+use Rattle.std.specs.Prelude.{Option, Some, None}
+use Rattle.std.proofs.lemmas.Option.{none-some}
+use Rattle.model.proofs.Options.{some-injective}
 use mathlib.Core.Path.{◌≡◌, refl, sym, ap, ◌∙◌}
 use native.Mathlib.Omega.{arith}
 use lib.ListN.{get_or, set, length-set}
@@ -37,21 +39,21 @@ use Rattle.decide_reply.proofs.Replies.{hand-sound}
 -- one active order stored ----------------------------------------------------------------------------------------------------
 
 -- what stands in a slot after a store is what was stored there, or stood there before
-stored : {A : Type 0} (l : List (Option A)) (i j : ℕ) (o : Option A) (x : A) → get_or (set l i o) j none ≡ some x
-    → ((j ≡ i) × (o ≡ some x)) ⊎ (get_or l j none ≡ some x)
+stored : {A : Type 0} (l : List (Option A)) (i j : ℕ) (o : Option A) (x : A) → get_or (set l i o) j None ≡ Some x
+    → ((j ≡ i) × (o ≡ Some x)) ⊎ (get_or l j None ≡ Some x)
 stored [] i j o x e = inr e
 stored (a ∷ l) zero zero o x e = inl (refl, e)
 stored (a ∷ l) zero (suc j) o x e = inr e
 stored (a ∷ l) (suc i) zero o x e = inr e
 stored (a ∷ l) (suc i) (suc j) o x e = next (stored l i j o x e)
   where
-    next : ((j ≡ i) × (o ≡ some x)) ⊎ (get_or l j none ≡ some x) → ((suc j ≡ suc i) × (o ≡ some x)) ⊎ (get_or l j none ≡ some x)
+    next : ((j ≡ i) × (o ≡ Some x)) ⊎ (get_or l j None ≡ Some x) → ((suc j ≡ suc i) × (o ≡ Some x)) ⊎ (get_or l j None ≡ Some x)
     next (inl p) = inl (ap suc p.0, p.1)
     next (inr p) = inr p
 
 module _ {ls : List (Option Lease)} {os : List (Option Active)} (i : ℕ) (o : Option Active) where
   -- on an axis whose lease stands
-  stored-sized : Sized ls os → is_some (get_or ls i none) ≡ true → Sized ls (set os i o)
+  stored-sized : Sized ls os → is_some (get_or ls i None) ≡ true → Sized ls (set os i o)
   stored-sized s leased =
       record {
         leases = s.leases;
@@ -59,13 +61,13 @@ module _ {ls : List (Option Lease)} {os : List (Option Active)} (i : ℕ) (o : O
         under = λ axis a e. by axis a (stored os i axis o a e);
       }
     where
-      by : (axis : ℕ) (a : Active) → ((axis ≡ i) × (o ≡ some a)) ⊎ (get_or os axis none ≡ some a) → is_some (get_or ls axis none) ≡ true
+      by : (axis : ℕ) (a : Active) → ((axis ≡ i) × (o ≡ Some a)) ⊎ (get_or os axis None ≡ Some a) → is_some (get_or ls axis None) ≡ true
       by axis a (inl p) = rw p.0 leased
       by axis a (inr p) = s.under axis a p
 
   -- none ends before a time that is neither after the one so far nor after its end
   stored-counted : {n soonest : ℕ} (sooner : ℕ) → Counted n soonest ls os → sooner ≤ soonest
-      → ((a : Active) → o ≡ some a → sooner ≤ a.expires_at) → Counted n sooner ls (set os i o)
+      → ((a : Active) → o ≡ Some a → sooner ≤ a.expires_at) → Counted n sooner ls (set os i o)
   stored-counted {n} {soonest} sooner c le ends =
       record {
         held = c.held;
@@ -73,28 +75,28 @@ module _ {ls : List (Option Lease)} {os : List (Option Active)} (i : ℕ) (o : O
         active = λ axis a e. by axis a (stored os i axis o a e);
       }
     where
-      by : (axis : ℕ) (a : Active) → ((axis ≡ i) × (o ≡ some a)) ⊎ (get_or os axis none ≡ some a) → sooner ≤ a.expires_at
+      by : (axis : ℕ) (a : Active) → ((axis ≡ i) × (o ≡ Some a)) ⊎ (get_or os axis None ≡ Some a) → sooner ≤ a.expires_at
       by axis a (inl p) = ends a p.1
       by axis a (inr p) = let k = c.active axis a p in omega arith
 
 -- an order ends at its end or never
-until : (c : Capability) (class : ExecutionClass) (end sooner : ℕ) (a : Active) → sooner ≤ end → sooner ≤ top → active_until c class end ≡ some a
+until : (c : Capability) (class : ExecutionClass) (end sooner : ℕ) (a : Active) → sooner ≤ end → sooner ≤ top → active_until c class end ≡ Some a
     → sooner ≤ a.expires_at
 unfolding active_until
 until c Stream end sooner a h k e = rw (some-injective _ _ (sym e)) h
 until c Discrete end sooner a h k e = rw (some-injective _ _ (sym e)) k
-until c Control end sooner a h k e = absurd (none-ne-some _ e)
+until c Control end sooner a h k e = absurd (none-some _ e)
 
 -- receipts -------------------------------------------------------------------------------------------------------------------
 
 module _ (f : Fixed) (n : Numbers) (t : Tables) (q : Asked) (h : Hand) (s : Sound (state f n t q h)) where
   pub fails : (c : Capability) (reason : Reason) (p : Progress) (order : Submission) {r : Receipt} → q.submission ≡ order
-      → r ≡ numbered n.next_receipt (order_receipt order (some c) Decision.Failed reason 0 p (book_of f n t))
+      → r ≡ numbered n.next_receipt (order_receipt order (Some c) Decision.Failed reason 0 p (book_of f n t))
       → Moves (recorded r AfterRecord.Failed (state f n t q h)) Item (proceed (fail c reason p order (book_of f n t)))
   unfolding fail record_receipt after_record_of order_receipt numbered
   fails c reason p order {r} same e =
       record {
-        reaction = rw e (records (state f n t q h) (order_receipt order (some c) Decision.Failed reason 0 p (book_of f n t)) AfterRecord.Failed ∙ rw same);
+        reaction = rw e (records (state f n t q h) (order_receipt order (Some c) Decision.Failed reason 0 p (book_of f n t)) AfterRecord.Failed ∙ rw same);
         sound = records-sound (state f n t q h) r AfterRecord.Failed s;
       }
 
@@ -103,7 +105,7 @@ module _ (f : Fixed) (n : Numbers) (t : Tables) (q : Asked) (h : Hand) (s : Soun
       → d.soonest ≤ top
       → d.soonest ≡ min n.soonest end
       → active_in d.active ≡ active_until c c.class end
-      → d.receipt ≡ numbered n.next_receipt (order_receipt order (some c) Decision.Executed Reason.Ok 0 p (book_of f n t))
+      → d.receipt ≡ numbered n.next_receipt (order_receipt order (Some c) Decision.Executed Reason.Ok 0 p (book_of f n t))
       → Moves (completed d c.resource (state f n t q h)) Item (proceed (complete c end p order (book_of f n t)))
   unfolding completed complete book_of with_active with_invalid_count after_record_of
   completes c end p order d same carried fits soon active e =
@@ -129,7 +131,7 @@ module _ (f : Fixed) (n : Numbers) (t : Tables) (q : Asked) (h : Hand) (s : Soun
         order = s.order;
       } in
       record {
-        reaction = rw e (records u (order_receipt order (some c) Decision.Executed Reason.Ok 0 p (book_of f n t)) AfterRecord.Executed ∙ rw active);
+        reaction = rw e (records u (order_receipt order (Some c) Decision.Executed Reason.Ok 0 p (book_of f n t)) AfterRecord.Executed ∙ rw active);
         sound = records-sound u d.receipt AfterRecord.Executed sound;
       }
 

@@ -1,6 +1,6 @@
 -- What follows each reply of the driver, by where the state stands; and the state with it stored.
 use Rattle.std.specs.Prelude.{ℕ, Bool, true, false, ◌≡◌, set}
-use Rattle.std.proofs.Math.Option.{Option, some, none}
+use Rattle.std.specs.Prelude.{Option, Some, None}
 use Rattle.model.specs.declared.Observation.{Observation}
 use Rattle.model.specs.declared.Presence.{Presence}
 use Rattle.model.specs.declared.Presence.TheVariants.{Absent, Present}
@@ -28,8 +28,8 @@ use Rattle.decide_reply.specs.declared.OnRecorded.{OnRecorded}
 
 -- the reply to an observation; none where the driver failed
 abbrev pub observation_if : Presence → Observation → Option Observation
-observation_if Absent seen = none
-observation_if Present seen = some seen
+observation_if Absent seen = None
+observation_if Present seen = Some seen
 
 abbrev pub observation_in : Observed → Option Observation
 observation_in o = observation_if o.presence o.observation
@@ -98,9 +98,9 @@ completed c axis s =
 
 -- sent at a time, and what was then observed, if anything
 unfoldable pub seen_by : ℕ → ℕ → Option Observation → Progress
-seen_by pre_state now none =
+seen_by pre_state now None =
     record { dispatched = true; pre_state = pre_state; executed_at = now; observed_valid = false; observed = not_sent.observed; post_state = 0 }
-seen_by pre_state now (some seen) =
+seen_by pre_state now (Some seen) =
     record { dispatched = true; pre_state = pre_state; executed_at = now; observed_valid = true; observed = seen.parameters; post_state = seen.state }
 
 -- an order that fails by an observation: before its execution, or after it
@@ -114,8 +114,8 @@ failed_by Awaited.Record pre_state now o = not_sent
 
 -- 16 where the driver brought none, else 17
 unfoldable pub reason_by : Option Observation → Reason
-reason_by none = Reason.Driver
-reason_by (some seen) = Reason.Verification
+reason_by None = Reason.Driver
+reason_by (Some seen) = Reason.Verification
 
 -- sent, and the driver failed
 abbrev pub unexecuted_by : ℕ → Progress
@@ -131,7 +131,7 @@ ObservesAs OnObserved.Executes s o = Moves (executing o.observation.state s) Ans
 ObservesAs OnObserved.Completes s o =
     (s.hand.waiting.awaited ≡ Awaited.ObserveAfter)
     × (proceed
-    (complete s.hand.order.capability s.hand.order.end (seen_by s.hand.order.pre_state s.asked.submission.now (some o.observation))
+    (complete s.hand.order.capability s.hand.order.end (seen_by s.hand.order.pre_state s.asked.submission.now (Some o.observation))
     s.asked.submission (book_in s))
     ≡ react (phase_of s) (Replies (Protocol.Observed (observation_in o))))
 ObservesAs OnObserved.Fails s o =

@@ -4,7 +4,7 @@
 #![tactic(auto)]
 
 ghost use Rattle.std.specs.Prelude.{Bool, true, cond, ◌≡◌};
-ghost use Rattle.std.proofs.Math.Option.{some};
+ghost use Rattle.std.specs.Prelude.{Some};
 ghost use Rattle.model.specs.declared.Reason.TheVariants.{Driver};
 ghost use Rattle.rules.specs.Protocol.{proceed};
 ghost use Rattle.rules.specs.Rules.{active_until, same_parameters, verified as verified_rule, complete, fail};
@@ -232,7 +232,7 @@ pub fn completed(
     submission: Submission,
     seen: Observation,
 ) -> Completing
-    ensures { (t : Tables) (q : Asked) (h : Hand) → Sound (state fixed numbers t q h) → q.submission ≡ submission → h.order.capability ≡ capability → carries h.waiting.awaited ≡ true → Moves (completed_in result capability.resource (state fixed numbers t q h)) Item (proceed (complete capability carrying.end (seen_by carrying.pre_state submission.now (some seen)) submission (book_of fixed numbers t))) }
+    ensures { (t : Tables) (q : Asked) (h : Hand) → Sound (state fixed numbers t q h) → q.submission ≡ submission → h.order.capability ≡ capability → carries h.waiting.awaited ≡ true → Moves (completed_in result capability.resource (state fixed numbers t q h)) Item (proceed (complete capability carrying.end (seen_by carrying.pre_state submission.now (Some seen)) submission (book_of fixed numbers t))) }
 {
     let end = carrying.end;
     let observed = seen.parameters;

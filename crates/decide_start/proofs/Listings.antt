@@ -2,7 +2,7 @@
 use Prim.Native.Nat.{ℕ, ◌+◌, ◌≤◌, ◌<◌}
 use mathlib.Core.Bool.{Bool, true, false, cond}
 use mathlib.Core.List.{List, [], ◌∷◌, ◌++◌}
-use mathlib.Core.Option.{some}
+use Rattle.std.specs.Prelude.{Some}
 use mathlib.Core.Path.{◌≡◌, refl, sym, ◌∙◌}
 use native.Mathlib.Numerals.{add-one}
 use native.Mathlib.Omega.{arith}
@@ -50,7 +50,7 @@ module _ (config : Config) (s : Listed) (l : List Capability) (boot time flags :
   abbrev Checks : Type 0
   Checks =
       refused_start (start_on config l boot time flags)
-      ≡ cond (eqb boot 0) (some invalid_boot_id) (cond (bad_config config s.count) (some invalid_config) (refused_record [] (take s.count s.records)))
+      ≡ cond (eqb boot 0) (Some invalid_boot_id) (cond (bad_config config s.count) (Some invalid_config) (refused_record [] (take s.count s.records)))
 
   long : 16 < length l → Checks
   unfolding refused_start

@@ -2,7 +2,7 @@
 use Prim.Native.Nat.{ℕ, ◌+◌, ◌<◌, ◌≤◌, min}
 use mathlib.Core.Bool.{true, false}
 use mathlib.Core.List.{List, ◌∷◌}
-use mathlib.Core.Option.{some, none}
+use Rattle.std.specs.Prelude.{Some, None}
 use mathlib.Core.Path.{◌≡◌}
 use native.Mathlib.Numerals.{add-one}
 use native.Mathlib.Omega.{arith}
@@ -19,12 +19,12 @@ module _ (l : List Capability) (count i : ℕ) (d : Capability) (h : i < length 
       let within : i < length (take count l) = simp length-take (omega arith) in
       rw (drop-cons (take count l) i d within, get_or-take count l i d k, add-one)
 
-  pub record-unsound : sound (get_or l i d) ≡ false → refused_record (take i l) (drop i (take count l)) ≡ some invalid_capability
+  pub record-unsound : sound (get_or l i d) ≡ false → refused_record (take i l) (drop i (take count l)) ≡ Some invalid_capability
   unfolding refused_record
   record-unsound e = rw (next, e)
 
   pub record-taken : sound (get_or l i d) ≡ true → id_taken (take i l) (get_or l i d).id ≡ true
-      → refused_record (take i l) (drop i (take count l)) ≡ some duplicate_capability
+      → refused_record (take i l) (drop i (take count l)) ≡ Some duplicate_capability
   unfolding refused_record
   record-taken e t = rw (next, e, t)
 
@@ -33,7 +33,7 @@ module _ (l : List Capability) (count i : ℕ) (d : Capability) (h : i < length 
   unfolding refused_record
   record-passes e t = rw (next, e, t, add-one, take-suc l i d h)
 
-pub records-end : (earlier l : List Capability) (count i : ℕ) → min count (length l) ≤ i → refused_record earlier (drop i (take count l)) ≡ none
+pub records-end : (earlier l : List Capability) (count i : ℕ) → min count (length l) ≤ i → refused_record earlier (drop i (take count l)) ≡ None
 unfolding refused_record
 records-end earlier l count i h =
     let past : length (take count l) ≤ i = simp length-take h in

@@ -1,6 +1,6 @@
 -- What a start's parts stand for, and what it goes on with.
 use Rattle.std.specs.Prelude.{ℕ, min, ◌<◌, Bool, true, false, cond, List, ◌≡◌, ltb, length, take, get_or}
-use Rattle.std.proofs.Math.Option.{Option, some, none}
+use Rattle.std.specs.Prelude.{Option, Some, None}
 use Rattle.model.specs.declared.Capability.{Capability}
 use Rattle.model.specs.declared.Config.{Config}
 use Rattle.model.specs.declared.RuntimeState.TheVariants.{SafeIdle, Estopped}
@@ -33,24 +33,24 @@ pub record Listing (s : Listed) (l : List Capability) : Type 0 where
 
 -- the number of a refused start, 101 to 105
 abbrev pub refusal_of : Answer → Option ℕ
-refusal_of Answer.Returned = none
-refusal_of Answer.Unraised = none
-refusal_of Answer.Raised = none
-refusal_of Answer.Succeeded = none
-refusal_of Answer.Leased = none
-refusal_of Answer.Refused = none
-refusal_of Answer.Submitted = none
-refusal_of Answer.Item = none
-refusal_of Answer.ReplyAwaited = none
-refusal_of Answer.OtherAwaited = none
-refusal_of Answer.NoReplyAwaited = none
-refusal_of Answer.NoRuntime = none
-refusal_of Answer.Started = none
-refusal_of Answer.InvalidBootId = some invalid_boot_id
-refusal_of Answer.InvalidConfig = some invalid_config
-refusal_of Answer.InvalidCapability = some invalid_capability
-refusal_of Answer.DuplicateCapability = some duplicate_capability
-refusal_of Answer.StartupFailed = some startup_failed
+refusal_of Answer.Returned = None
+refusal_of Answer.Unraised = None
+refusal_of Answer.Raised = None
+refusal_of Answer.Succeeded = None
+refusal_of Answer.Leased = None
+refusal_of Answer.Refused = None
+refusal_of Answer.Submitted = None
+refusal_of Answer.Item = None
+refusal_of Answer.ReplyAwaited = None
+refusal_of Answer.OtherAwaited = None
+refusal_of Answer.NoReplyAwaited = None
+refusal_of Answer.NoRuntime = None
+refusal_of Answer.Started = None
+refusal_of Answer.InvalidBootId = Some invalid_boot_id
+refusal_of Answer.InvalidConfig = Some invalid_config
+refusal_of Answer.InvalidCapability = Some invalid_capability
+refusal_of Answer.DuplicateCapability = Some duplicate_capability
+refusal_of Answer.StartupFailed = Some startup_failed
 
 abbrev pub is_refusal : Answer → Bool
 is_refusal a = is_some (refusal_of a)

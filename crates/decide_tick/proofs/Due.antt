@@ -2,7 +2,7 @@
 use Prim.Native.Nat.{ℕ, zero, suc, ◌+◌, ◌-◌, ◌<◌, ◌≤◌}
 use mathlib.Core.Bool.{Bool, true, false, cond, not, false≢true}
 use mathlib.Core.List.{List, [], ◌∷◌}
-use mathlib.Core.Option.{Option, some, none}
+use Rattle.std.specs.Prelude.{Option, Some, None}
 use mathlib.Core.Path.{◌≡◌, refl, sym, ap, ◌∙◌}
 use native.Mathlib.Omega.{arith}
 use lib.Dec.{leb, eqb}
@@ -37,8 +37,8 @@ is_over time b axis = is_some (due time (lease_at b axis) (active_at b axis))
 abbrev over_reason : Bool → Reason
 over_reason lease = cond lease LeaseExpired StreamExpired
 
-reason-is : (l o : Bool) → is_some (cond l (some LeaseExpired) (cond o (some StreamExpired) none)) ≡ true
-    → cond l (some LeaseExpired) (cond o (some StreamExpired) none) ≡ some (over_reason l)
+reason-is : (l o : Bool) → is_some (cond l (Some LeaseExpired) (cond o (Some StreamExpired) None)) ≡ true
+    → cond l (Some LeaseExpired) (cond o (Some StreamExpired) None) ≡ Some (over_reason l)
 unfolding is_some
 reason-is true o e = refl
 reason-is false true e = refl
@@ -53,8 +53,8 @@ module _ (time : ℕ) (b : Book) (next : Book → Interaction) where
       go : (d : Option Reason) → cond (is_some d) (axis ∷ select (is_over time b) rest) (select (is_over time b) rest) ≡ []
           → (select (is_over time b) rest ≡ [] → expiries rest time b next ≡ next b)
           → fallback_if d axis time b (λ b'. expiries rest time b' next) ≡ next b
-      go none e k = k e
-      go (some r) e k = absurd (let z : ◌≡◌ {A = ℕ} 0 1 = cc in omega arith)
+      go None e k = k e
+      go (Some r) e k = absurd (let z : ◌≡◌ {A = ℕ} 0 1 = cc in omega arith)
 
   skip_step : (i : ℕ) → i < 8 → is_over time b i ≡ false → expiries (axes_from i) time b next ≡ expiries (axes_from (i + 1)) time b next
   unfolding expiries fallback_if is_some
@@ -62,8 +62,8 @@ module _ (time : ℕ) (b : Book) (next : Book → Interaction) where
     where
       go : (d : Option Reason) → is_some d ≡ false
           → fallback_if d i time b (λ b'. expiries (axes_from (i + 1)) time b' next) ≡ expiries (axes_from (i + 1)) time b next
-      go none e = refl
-      go (some r) e = absurd (false≢true (sym e))
+      go None e = refl
+      go (Some r) e = absurd (false≢true (sym e))
 
   abbrev falls_at : ℕ → Interaction
   falls_at i =

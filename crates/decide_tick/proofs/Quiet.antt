@@ -2,7 +2,7 @@
 use Prim.Native.Nat.{ℕ, ◌-◌, ◌<◌, ◌≤◌}
 use mathlib.Core.Bool.{Bool, true, false, not, ◌&&◌, and-false}
 use mathlib.Core.List.{List, [], ◌∷◌}
-use mathlib.Core.Option.{Option, some, none}
+use Rattle.std.specs.Prelude.{Option, Some, None}
 use mathlib.Core.Path.{◌≡◌, refl, ap, ◌∙◌}
 use native.Mathlib.Omega.{arith}
 use borrow.Author.Tests.{le-ltb, lt-leb}
@@ -30,17 +30,17 @@ module _ (time : ℕ) (b : Book) where
   none-selected k (axis ∷ rest) = rw (k axis) (none-selected k rest)
 
   module _ {n soonest : ℕ} (c : Counted n soonest b.leases b.active) (early : time < soonest) where
-    stands : {A : Type 0} (ends : A → ℕ) (o : Option A) → ((a : A) → o ≡ some a → soonest ≤ ends a) → holds_of o (λ a. leb (ends a) time) ≡ false
+    stands : {A : Type 0} (ends : A → ℕ) (o : Option A) → ((a : A) → o ≡ Some a → soonest ≤ ends a) → holds_of o (λ a. leb (ends a) time) ≡ false
     unfolding holds_of
-    stands ends none k = refl
-    stands ends (some a) k = lt-leb (ends a) time (omega (arith, k a refl))
+    stands ends None k = refl
+    stands ends (Some a) k = lt-leb (ends a) time (omega (arith, k a refl))
 
     early-axis : (axis : ℕ) → is_over time b axis ≡ false
     unfolding due is_some
     early-axis axis =
         rw (
-          stands (λ (l : Lease). l.expires_at) (get_or b.leases axis none) (c.leases axis),
-          stands (λ (a : Active). a.expires_at) (get_or b.active axis none) (c.active axis),
+          stands (λ (l : Lease). l.expires_at) (get_or b.leases axis None) (c.leases axis),
+          stands (λ (a : Active). a.expires_at) (get_or b.active axis None) (c.active axis),
         )
 
     early-axes : select (is_over time b) axes ≡ []

@@ -1,6 +1,6 @@
 -- What the decisions of a tick are shown, and what a quiet tick leaves.
 use Rattle.std.specs.Prelude.{ℕ, ◌<◌, ◌≡◌, get_or}
-use Rattle.std.proofs.Math.Option.{Option, some, none}
+use Rattle.std.specs.Prelude.{Option, Some, None}
 use Rattle.model.specs.declared.Active.{Active}
 use Rattle.model.specs.declared.Lease.{Lease}
 use Rattle.model.specs.declared.LeaseSlot.{LeaseSlot}
@@ -20,17 +20,17 @@ use Rattle.decide_tick.specs.declared.Opening.{Opening}
 
 -- the end of a lease and of an active order; where there is none, the top
 unfoldable pub lease_end : Option Lease → ℕ
-lease_end none = top
-lease_end (some l) = l.expires_at
+lease_end None = top
+lease_end (Some l) = l.expires_at
 
 unfoldable pub order_end : Option Active → ℕ
-order_end none = top
-order_end (some a) = a.expires_at
+order_end None = top
+order_end (Some a) = a.expires_at
 
 -- the first axis from one on whose lease or order is over, or 8, and what stands in its slot
 pub record ShowsDue (time from axis : ℕ) (lease : LeaseSlot) (t : Tables) : Type 0 where
   pub first : axis ≡ first_due time t.leases t.active from
-  pub shown : axis < 8 → lease_in lease ≡ get_or t.leases axis none
+  pub shown : axis < 8 → lease_in lease ≡ get_or t.leases axis None
 
 -- the numbers with another last tick and state
 abbrev pub ticked : ℕ → Mode → Numbers → Numbers

@@ -2,7 +2,7 @@
 use Prim.Native.Nat.{ℕ, zero, suc}
 use native.Mathlib.Omega.{arith}
 use mathlib.Core.List.{List, [], ◌∷◌}
-use mathlib.Core.Option.{some, none}
+use Rattle.std.specs.Prelude.{Some, None}
 use mathlib.Core.Path.{◌≡◌, refl, ap}
 use lib.IntN.{ℤ}
 use Rattle.model.specs.declared.Capability.{Capability}
@@ -45,36 +45,36 @@ module _ (kind n : ℕ) where
 
 -- outputs ----------------------------------------------------------------------------------------------------------------
 
-pub item_back : (n : ℕ) (item : Item) → FitsItem item → output_in (item_words n item) ≡ some (handed n item)
+pub item_back : (n : ℕ) (item : Item) → FitsItem item → output_in (item_words n item) ≡ Some (handed n item)
 unfolding output_in output_at outputs item_words padded
 item_back n (ItemObserve axis) p = refl
-item_back n (ItemExecute capability parameters) p = ap (λ (zs : List ℤ). some (handed n (ItemExecute capability zs))) (parts-back p)
-item_back n (ItemFallback axis reason) p = ap (λ (r : Reason). some (handed n (ItemFallback axis r))) (reason-back reason)
-item_back n (ItemRecord r) p = ap (λ (x : Receipt). some (handed n (ItemRecord x))) (receipt-back 19 n r p)
+item_back n (ItemExecute capability parameters) p = ap (λ (zs : List ℤ). Some (handed n (ItemExecute capability zs))) (parts-back p)
+item_back n (ItemFallback axis reason) p = ap (λ (r : Reason). Some (handed n (ItemFallback axis r))) (reason-back reason)
+item_back n (ItemRecord r) p = ap (λ (x : Receipt). Some (handed n (ItemRecord x))) (receipt-back 19 n r p)
 
-pub answer_back : (a : Answer) → FitsAnswer a → output_in (answer_words a) ≡ some (Answers a)
+pub answer_back : (a : Answer) → FitsAnswer a → output_in (answer_words a) ≡ Some (Answers a)
 unfolding output_in output_at outputs answer_words padded
 answer_back Returned p = refl
 answer_back (Polled seen) p = rw (bit-back seen)
 answer_back Succeeded p = refl
-answer_back (Leased l) p = ap (λ (x : Lease). some (Answers (Leased x))) (lease-back 35 0 l p)
-answer_back (Refused reason) p = ap (λ (r : Reason). some (Answers (Refused r))) (reason-back reason)
-answer_back (Submitted r) p = ap (λ (x : Receipt). some (Answers (Submitted x))) (receipt-back 37 0 r p)
+answer_back (Leased l) p = ap (λ (x : Lease). Some (Answers (Leased x))) (lease-back 35 0 l p)
+answer_back (Refused reason) p = ap (λ (r : Reason). Some (Answers (Refused r))) (reason-back reason)
+answer_back (Submitted r) p = ap (λ (x : Receipt). Some (Answers (Submitted x))) (receipt-back 37 0 r p)
 
-pub value-back : (v : Value) → FitsValue v → output_in (value_words v) ≡ some (Shows v)
+pub value-back : (v : Value) → FitsValue v → output_in (value_words v) ≡ Some (Shows v)
 unfolding output_in output_at outputs value_words padded
 value-back (OfState s) p = rw (state-back s)
 value-back (OfNumber n) p = refl
-value-back (OfConfig c) p = ap (λ (x : Config). some (Shows (OfConfig x))) (config-back 53 0 c)
-value-back (OfSnapshot s) p = ap (λ (x : Snapshot). some (Shows (OfSnapshot x))) (snapshot-back 54 0 s)
-value-back (OfLease none) p = refl
-value-back (OfLease (some l)) p = ap (λ (x : Lease). some (Shows (OfLease (some x)))) (lease-back 55 1 l p)
-value-back (OfCapability none) p = refl
-value-back (OfCapability (some c)) p = ap (λ (x : Capability). some (Shows (OfCapability (some x)))) (capability-back 56 1 c p)
-value-back (OfReceipt none) p = refl
-value-back (OfReceipt (some r)) p = ap (λ (x : Receipt). some (Shows (OfReceipt (some x)))) (receipt-back 57 1 r p)
+value-back (OfConfig c) p = ap (λ (x : Config). Some (Shows (OfConfig x))) (config-back 53 0 c)
+value-back (OfSnapshot s) p = ap (λ (x : Snapshot). Some (Shows (OfSnapshot x))) (snapshot-back 54 0 s)
+value-back (OfLease None) p = refl
+value-back (OfLease (Some l)) p = ap (λ (x : Lease). Some (Shows (OfLease (Some x)))) (lease-back 55 1 l p)
+value-back (OfCapability None) p = refl
+value-back (OfCapability (Some c)) p = ap (λ (x : Capability). Some (Shows (OfCapability (Some x)))) (capability-back 56 1 c p)
+value-back (OfReceipt None) p = refl
+value-back (OfReceipt (Some r)) p = ap (λ (x : Receipt). Some (Shows (OfReceipt (Some x)))) (receipt-back 57 1 r p)
 
-pub told_back : (out : Output) → Fits out → output_in (encode out) ≡ some out
+pub told_back : (out : Output) → Fits out → output_in (encode out) ≡ Some out
 unfolding output_in output_at outputs encode padded handed
 told_back Started p = refl
 told_back (StartRefused n) p = refl

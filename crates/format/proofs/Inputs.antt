@@ -3,7 +3,7 @@ use Prim.Native.Nat.{ℕ, ◌≤◌}
 use native.Mathlib.Omega.{arith}
 use mathlib.Core.Bool.{true}
 use mathlib.Core.List.{List, [], ◌∷◌, ◌++◌}
-use mathlib.Core.Option.{some, none}
+use Rattle.std.specs.Prelude.{Some, None}
 use mathlib.Core.Path.{◌≡◌, refl, ap}
 use borrow.Author.Tests.{le-leb}
 use Rattle.model.specs.declared.Capability.{Capability}
@@ -61,8 +61,8 @@ call-has (Submit s) p =
 
 reply-has : (r : Reply) → RangedReply r → decode (reply_words r) ≡ Feeds (Replies r)
 unfolding reply_words padded_to16 kind_at lookup kinds limits_of turn_limits record_of turn_of observed_of observation_of
-reply-has (Observed none) p = decoded (Kind.Turn Turn.Observed) _ refl (omega arith) refl
-reply-has (Observed (some o)) p =
+reply-has (Observed None) p = decoded (Kind.Turn Turn.Observed) _ refl (omega arith) refl
+reply-has (Observed (Some o)) p =
     decoded (Kind.Turn Turn.Observed) _ refl (omega (arith, parts_in p.parameters)) (rw (parts-back p.parameters, kept p.state))
 reply-has (Executed ok) p = decoded (Kind.Turn Turn.Executed) _ refl (omega (arith, bit_in ok)) (rw (bit-back ok))
 reply-has (FellBack ok) p = decoded (Kind.Turn Turn.FellBack) _ refl (omega (arith, bit_in ok)) (rw (bit-back ok))

@@ -1,6 +1,6 @@
 -- An output read back from the 26 words of its record, and which outputs these words hold whole (docs/WIRE.md, "Output records").
 use Rattle.std.specs.Prelude.{ℕ, zero, suc, ◌<◌, cond, List, [], ◌∷◌, eqb, get_or, drop}
-use Rattle.std.proofs.Math.Option.{Option, some, none}
+use Rattle.std.specs.Prelude.{Option, Some, None}
 use Rattle.model.specs.Decisions.{decisions}
 use Rattle.model.specs.Reasons.{reasons}
 use Rattle.model.specs.declared.Capability.{Capability}
@@ -110,7 +110,7 @@ handed (suc n) item = Reminds (suc n) item
 
 -- word 1 says whether there is one
 abbrev pub shown : {A : Type 0} → List ℕ → A → Option A
-shown ws a = cond (bool_at ws 1) (some a) none
+shown ws a = cond (bool_at ws 1) (Some a) None
 
 -- the table of docs/WIRE.md
 unfoldable pub outputs : List ℕ → List (ℕ × Output)
@@ -139,8 +139,8 @@ outputs ws =
     ∷ []
 
 unfoldable pub output_at : List (ℕ × Output) → ℕ → Option Output
-output_at [] kind = none
-output_at (o ∷ os) kind = cond (eqb kind o.0) (some o.1) (output_at os kind)
+output_at [] kind = None
+output_at (o ∷ os) kind = cond (eqb kind o.0) (Some o.1) (output_at os kind)
 
 -- none: what is no output (1 listed, 64 malformed, 65 short)
 unfoldable pub output_in : List ℕ → Option Output
@@ -174,12 +174,12 @@ FitsValue (OfState s) = Unit
 FitsValue (OfNumber n) = Unit
 FitsValue (OfConfig c) = Unit
 FitsValue (OfSnapshot s) = Unit
-FitsValue (OfLease none) = Unit
-FitsValue (OfLease (some l)) = FitsLease l
-FitsValue (OfCapability none) = Unit
-FitsValue (OfCapability (some c)) = RangedCapability c
-FitsValue (OfReceipt none) = Unit
-FitsValue (OfReceipt (some r)) = FitsReceipt r
+FitsValue (OfLease None) = Unit
+FitsValue (OfLease (Some l)) = FitsLease l
+FitsValue (OfCapability None) = Unit
+FitsValue (OfCapability (Some c)) = RangedCapability c
+FitsValue (OfReceipt None) = Unit
+FitsValue (OfReceipt (Some r)) = FitsReceipt r
 
 -- a reminder's number is not 0 (it is 111 or 113)
 abbrev pub Fits : Output → Type 0

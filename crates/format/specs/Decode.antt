@@ -1,7 +1,7 @@
 -- What the 16 words of an input record stand for (docs/WIRE.md, "Input records"). A narrow field takes the low bits of its word; `within` has
 -- made sure that there are no others.
 use Rattle.std.specs.Prelude.{ℕ, ◌%◌, Bool, cond, List, [], ◌∷◌, eqb, ℤ, get_or}
-use Rattle.std.proofs.Math.Option.{Option, some, none}
+use Rattle.std.specs.Prelude.{Option, Some, None}
 use Rattle.model.specs.declared.Action.{Action}
 use Rattle.model.specs.declared.Bounds.{Bounds}
 use Rattle.model.specs.declared.Capability.{Capability}
@@ -132,7 +132,7 @@ observation_of ws = record { parameters = i32_at ws 2 ∷ i32_at ws 3 ∷ []; st
 
 -- none: the driver failed
 unfoldable pub observed_of : List ℕ → Option Observation
-observed_of ws = cond (bool_at ws 1) (some (observation_of ws)) none
+observed_of ws = cond (bool_at ws 1) (Some (observation_of ws)) None
 
 pub data Record : Type 0 where
   Lists : Capability → Record  -- one more capability for the next start

@@ -1,6 +1,6 @@
 -- The 26 words of an output record (docs/WIRE.md, "Output records").
 use Rattle.std.specs.Prelude.{ℕ, ◌-◌, Bool, true, false, List, [], ◌∷◌, ◌++◌, ℤ, pos, get_or, length, replicate}
-use Rattle.std.proofs.Math.Option.{some, none}
+use Rattle.std.specs.Prelude.{Some, None}
 use Rattle.model.specs.Decisions.{decision_number}
 use Rattle.model.specs.Reasons.{number}
 use Rattle.model.specs.Records.{zero_bounds}
@@ -167,12 +167,12 @@ value_words (OfState s) = padded 48 (state_number s) []
 value_words (OfNumber n) = padded 49 n []
 value_words (OfConfig c) = padded 53 0 (config_words c)
 value_words (OfSnapshot s) = padded 54 0 (snapshot_words s)
-value_words (OfLease none) = padded 55 0 []
-value_words (OfLease (some l)) = padded 55 1 (lease_words l)
-value_words (OfCapability none) = padded 56 0 []
-value_words (OfCapability (some c)) = padded 56 1 (capability_words c)
-value_words (OfReceipt none) = padded 57 0 []
-value_words (OfReceipt (some r)) = padded 57 1 (receipt_words r)
+value_words (OfLease None) = padded 55 0 []
+value_words (OfLease (Some l)) = padded 55 1 (lease_words l)
+value_words (OfCapability None) = padded 56 0 []
+value_words (OfCapability (Some c)) = padded 56 1 (capability_words c)
+value_words (OfReceipt None) = padded 57 0 []
+value_words (OfReceipt (Some r)) = padded 57 1 (receipt_words r)
 
 unfoldable pub encode : Output → List ℕ
 encode Started = padded 2 0 []

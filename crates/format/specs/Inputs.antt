@@ -1,6 +1,6 @@
 -- The 16 words of an input record, and what its fields can hold by their types (docs/WIRE.md, "Input records").
 use Rattle.std.specs.Prelude.{ℕ, ◌-◌, ◌≤◌, List, [], ◌∷◌, ◌++◌, ℤ, length, replicate}
-use Rattle.std.proofs.Math.Option.{some, none}
+use Rattle.std.specs.Prelude.{Some, None}
 use Rattle.std.specs.Int.{w32}
 use Rattle.std.proofs.Common.{SFits}
 use Rattle.model.specs.declared.Action.{Action}
@@ -67,8 +67,8 @@ call_words (Cancel owner lease now) = padded_to16 23 (now ∷ owner ∷ lease �
 call_words (Submit s) = padded_to16 24 (s.now ∷ s.principal ∷ s.received_at ∷ action_words s.action)
 
 unfoldable pub reply_words : Reply → List ℕ
-reply_words (Observed none) = padded_to16 32 (0 ∷ [])
-reply_words (Observed (some o)) = padded_to16 32 (1 ∷ part_at o.parameters 0 ∷ part_at o.parameters 1 ∷ o.state ∷ [])
+reply_words (Observed None) = padded_to16 32 (0 ∷ [])
+reply_words (Observed (Some o)) = padded_to16 32 (1 ∷ part_at o.parameters 0 ∷ part_at o.parameters 1 ∷ o.state ∷ [])
 reply_words (Executed ok) = padded_to16 33 (bit ok ∷ [])
 reply_words (FellBack ok) = padded_to16 34 (bit ok ∷ [])
 reply_words Recorded = padded_to16 35 []
@@ -176,8 +176,8 @@ RangedCall (Cancel owner lease now) = (owner ≤ u64) × (lease ≤ u64) × (now
 RangedCall (Submit s) = RangedSubmission s
 
 abbrev pub RangedReply : Reply → Type 0
-RangedReply (Observed none) = Unit
-RangedReply (Observed (some o)) = RangedObservation o
+RangedReply (Observed None) = Unit
+RangedReply (Observed (Some o)) = RangedObservation o
 RangedReply (Executed ok) = Unit
 RangedReply (FellBack ok) = Unit
 RangedReply Recorded = Unit

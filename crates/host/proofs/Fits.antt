@@ -3,12 +3,13 @@ use Prim.Native.Nat.{ℕ, zero, suc, ◌-◌, ◌+◌, ◌*◌, ◌/◌, ◌%◌
 use native.Mathlib.Omega.{arith}
 use mathlib.Core.Bool.{Bool, true, false, cond}
 use mathlib.Core.List.{List, [], ◌∷◌, map}
-use mathlib.Core.Option.{Option, some, none}
+use Rattle.std.specs.Prelude.{Option, Some, None}
 use mathlib.Core.Path.{◌≡◌, refl, sym, ap, subst}
 use borrow.Author.Tests.{ltb-true, ltb-false}
 use lib.Dec.{ltb}
 use lib.IntN.{ℤ, pos, negsuc}
-use lib.ListN.{get_or, take, get_elem?}
+use lib.ListN.{get_or, take}
+use Rattle.std.specs.Prelude.{slice_get}
 use Rattle.words.specs.Signs.{signed}
 use Rattle.model.specs.Records.{no_lease, no_capability, no_receipt}
 use Rattle.model.specs.declared.Capability.{Capability}
@@ -129,7 +130,7 @@ module _ {A : Type 0} (P : A → Type 0) where
   at (x ∷ l) (suc i) d h p = at l i d h.1 p
 
   -- .. or none
-  found : (Q : Option A → Type 0) → Q none → ((a : A) → P a → Q (some a)) → (l : List A) (i : ℕ) → All P l → Q (get_elem? l i)
+  found : (Q : Option A → Type 0) → Q None → ((a : A) → P a → Q (Some a)) → (l : List A) (i : ℕ) → All P l → Q (slice_get l i)
   found Q n s [] i h = n
   found Q n s (x ∷ l) zero h = s x h.0
   found Q n s (x ∷ l) (suc i) h = found Q n s l i h.1
@@ -180,7 +181,7 @@ module _ (rt : Runtime) (h : Holds rt) where
   lease-at : (axis : ℕ) → FitsSlot (lease_at (book_on rt) axis)
   unfolding book_of
   lease-at axis =
-      at FitsSlot (map lease_in (take 8 rt.leases)) axis none
+      at FitsSlot (map lease_in (take 8 rt.leases)) axis None
       (all_map (λ (s : LeaseSlot). FitsLease s.lease) FitsSlot lease_in (λ s. slot-fits s.presence s.lease) (take 8 rt.leases) (all_take _ 8 rt.leases h.leases)) tt
     where
       slot-fits : (p : Presence) (l : Lease) → FitsLease l → FitsSlot (lease_if p l)
@@ -206,8 +207,8 @@ module _ (rt : Runtime) (h : Holds rt) where
 
   lease-answered : (o : Option Lease) → FitsSlot o → FitsLease (lease_or no_lease.lease o)
   unfolding lease_or
-  lease-answered none f = no-lease-fits
-  lease-answered (some l) f = f
+  lease-answered None f = no-lease-fits
+  lease-answered (Some l) f = f
 
   answer-fits : (a : Answer) → Fits (output_of a (state_in rt))
   unfolding output_of
@@ -248,7 +249,7 @@ module _ (rt : Runtime) (h : Holds rt) where
       (listed-fit rt.places.index (stores_of rt.places rt.slots) (all_take FitsReceipt 64 rt.slots h.slots))
 
   -- once started the book is the runtime's, whatever is awaited
-  book-at : (a : Awaited) (k : Hand) (q : Asked) (b : Book) → book_in (phase_at a k q b) ≡ some b
+  book-at : (a : Awaited) (k : Hand) (q : Asked) (b : Book) → book_in (phase_at a k q b) ≡ Some b
   unfolding book_in phase_at wait_book
   book-at Awaited.Nothing k q b = refl
   book-at Awaited.ObserveBefore k q b = refl

@@ -2,7 +2,7 @@
 use Prim.Native.Nat.{ℕ, ◌%◌, ◌≤◌, ◌<◌}
 use mathlib.Core.Bool.{Bool, true, false, false≢true, cond, not, ◌&&◌, and-true}
 use mathlib.Core.List.{List, [], ◌∷◌}
-use mathlib.Core.Option.{Option, some, none}
+use Rattle.std.specs.Prelude.{Option, Some, None}
 use mathlib.Core.Path.{◌≡◌, refl, sym, ap, ap₂, ◌∙◌, subst}
 use native.Mathlib.Nat.{mod-eq_of_lt}
 use native.Mathlib.Omega.{arith}
@@ -310,11 +310,11 @@ tells-read ws e z t = tells e t.words z t.writes t.says
 
 pub item-said : (x : Option Item) → shown_output (shown_item x) ≡ item_output x
 unfolding shown_item
-item-said none = refl
-item-said (some (ItemObserve axis)) = refl
-item-said (some (ItemExecute c ps)) = refl
-item-said (some (ItemFallback axis reason)) = refl
-item-said (some (ItemRecord r)) = refl
+item-said None = refl
+item-said (Some (ItemObserve axis)) = refl
+item-said (Some (ItemExecute c ps)) = refl
+item-said (Some (ItemFallback axis reason)) = refl
+item-said (Some (ItemRecord r)) = refl
 
 -- records ----------------------------------------------------------------------------------------------------------------
 

@@ -3,7 +3,7 @@
 use Prim.Native.Nat.{ℕ}
 use mathlib.Core.Bool.{Bool, cond}
 use mathlib.Core.List.{List, [], ◌∷◌}
-use mathlib.Core.Option.{some, none}
+use Rattle.std.specs.Prelude.{Some, None}
 use mathlib.Core.Path.{◌≡◌, refl}
 use lib.IntN.{ℤ}
 use seplogic.Ra.Ura.{Ura}
@@ -133,7 +133,7 @@ module _ {M : Type 1} {𝓤 : Ura M} (𝓛 : Logic 𝓤) (m : Memory → SProp �
 
   -- replies -------------------------------------------------------------------------------------------------------------
 
-  pub observed-says : (state after : MutBor (List ℕ)) (ok : Bool) (v u : ℤ) (sensed r : ℕ) → (f-observed.clauses 𝓛 m run (κ, tt) (state, (ok, (v, (u, (sensed, tt)))))).ensures tt r (after, (ok, (v, (u, (sensed, tt))))) ≡ fact 𝓤 (Asks state.now after.now r (Feeds (Replies (Observed (cond ok (some (record { parameters = v ∷ u ∷ []; state = sensed })) none)))))
+  pub observed-says : (state after : MutBor (List ℕ)) (ok : Bool) (v u : ℤ) (sensed r : ℕ) → (f-observed.clauses 𝓛 m run (κ, tt) (state, (ok, (v, (u, (sensed, tt)))))).ensures tt r (after, (ok, (v, (u, (sensed, tt))))) ≡ fact 𝓤 (Asks state.now after.now r (Feeds (Replies (Observed (cond ok (Some (record { parameters = v ∷ u ∷ []; state = sensed })) None)))))
   observed-says state after ok v u sensed r = refl
 
   pub observed-asks : (state : MutBor (List ℕ)) (ok : Bool) (v u : ℤ) (sensed : ℕ) → (f-observed.clauses 𝓛 m run (κ, tt) (state, (ok, (v, (u, (sensed, tt)))))).requires tt ≡ emp 𝓤

@@ -2,7 +2,8 @@
 use Prim.Native.Nat.{ℕ}
 use mathlib.Core.Bool.{Bool, true, false}
 use mathlib.Core.List.{List, [], ◌∷◌}
-use mathlib.Core.Option.{Option, some, none, none-ne-some}
+use Rattle.std.specs.Prelude.{Option, Some, None}
+use Rattle.std.proofs.lemmas.Option.{none-some}
 use mathlib.Core.Path.{◌≡◌, refl, sym, ap, ◌∙◌, subst}
 use Rattle.model.specs.Reasons.{number}
 use Rattle.model.specs.declared.Reason.{Reason}
@@ -30,7 +31,7 @@ use Rattle.host.proofs.Theorem.{Fit, same_answer}
 
 -- of any output that its record holds: whoever is told it reads it
 pub told-back-of : {w out out' : List ℕ} {r : ℕ} {x : Output} → Tells w out out' r x → lack_of w out ≡ 0 → RuntimeSound (runtime_in w) → Fits x
-    → output_in (part out' 0 26) ≡ some x
+    → output_in (part out' 0 26) ≡ Some x
 told-back-of {w} {out} {x = x} p z h f =
     let t = p.told z in
     let k = t.writes in
@@ -41,14 +42,14 @@ told-back-of {w} {out} {x = x} p z h f =
 
 -- handed out, or again
 abbrev item_in : Output → Option Item
-item_in Started = none
-item_in (StartRefused n) = none
-item_in (Hands x) = some x
-item_in (Answers a) = none
-item_in (Reminds n x) = some x
-item_in (Refuses n) = none
-item_in (Shows v) = none
-item_in NoRuntime = none
+item_in Started = None
+item_in (StartRefused n) = None
+item_in (Hands x) = Some x
+item_in (Answers a) = None
+item_in (Reminds n x) = Some x
+item_in (Refuses n) = None
+item_in (Shows v) = None
+item_in NoRuntime = None
 
 -- what comes out with a phase names the item that this phase awaits, or none
 abbrev Names : Reaction → Type 0
@@ -86,22 +87,22 @@ replies (Idle b) r = refl
 replies (Waiting w) r = go (resume w r)
   where
     go : (o : Option Interaction) → Names (apply (Waiting w) (resumed o (item_on w)))
-    go (some t) = proceeds t
-    go none = refl
+    go (Some t) = proceeds t
+    go None = refl
 
-nothing-shown : (q : Reading) (o : Option Book) → item_in (shown q o) ≡ none
+nothing-shown : (q : Reading) (o : Option Book) → item_in (shown q o) ≡ None
 unfolding shown
-nothing-shown q none = refl
-nothing-shown q (some b) = refl
+nothing-shown q None = refl
+nothing-shown q (Some b) = refl
 
-awaited-after : (p : Phase) (i : Input) (x : Item) → item_in (react p i).output ≡ some x → awaited_in (react p i).phase ≡ some x
+awaited-after : (p : Phase) (i : Input) (x : Item) → item_in (react p i).output ≡ Some x → awaited_in (react p i).phase ≡ Some x
 unfolding react apply effect
 awaited-after p (Calls c) x e = calls p c ∙ e
 awaited-after p (Replies r) x e = replies p r ∙ e
-awaited-after p (Reads q) x e = absurd (none-ne-some x (sym (nothing-shown q (book_in p)) ∙ e))
+awaited-after p (Reads q) x e = absurd (none-some x (sym (nothing-shown q (book_in p)) ∙ e))
 
 -- whichever the item is, it is told as itself
-as-itself : (x : Item) → item_output (some x) ≡ Hands x
+as-itself : (x : Item) → item_output (Some x) ≡ Hands x
 as-itself (ItemObserve axis) = refl
 as-itself (ItemExecute capability parameters) = refl
 as-itself (ItemFallback axis reason) = refl
@@ -122,47 +123,47 @@ module _ {w w' : List ℕ} {i : Input} (h : Fit w) where
 
   -- an answer that comes with the item of the state: this item is told
   item-of : {out out' : List ℕ} {r k : ℕ} (answer : Answer) → r ≡ number_of answer → Asks w w' r (Feeds i)
-      → item_in (output_of answer (state_in (runtime_in w'))) ≡ some (item_of (state_in (runtime_in w')))
+      → item_in (output_of answer (state_in (runtime_in w'))) ≡ Some (item_of (state_in (runtime_in w')))
       → Tells w' out out' k (item_output (awaited_in (phase_in (runtime_in w')))) → lack_of w' out ≡ 0
-      → output_in (part out' 0 26) ≡ some (Hands (item_of (state_in (runtime_in w'))))
+      → output_in (part out' 0 26) ≡ Some (Hands (item_of (state_in (runtime_in w'))))
   item-of answer n p own t z =
       let m = moved answer n p in
       let e = ap awaited_in m.phase ∙ awaited-after (phase_in (runtime_in w)) i _ (ap item_in (sym m.output) ∙ own) in
-      told-back-of t z m.sound (fits-item w') ∙ ap some (ap item_output e ∙ as-itself _)
+      told-back-of t z m.sound (fits-item w') ∙ ap Some (ap item_output e ∙ as-itself _)
 
   -- 20: the item that this step hands out, and no other
   pub item-told : {out out' : List ℕ} {k : ℕ} → Asks w w' 20 (Feeds i) → Tells w' out out' k (item_output (awaited_in (phase_in (runtime_in w')))) → lack_of w' out ≡ 0
-      → output_in (part out' 0 26) ≡ some (said w i)
+      → output_in (part out' 0 26) ≡ Some (said w i)
   unfolding number_of output_of
-  item-told p t z = item-of Answer.Item refl p refl t z ∙ ap some (moved Answer.Item refl p).output
+  item-told p t z = item-of Answer.Item refl p refl t z ∙ ap Some (moved Answer.Item refl p).output
 
   -- 111 and 113: the item whose reply is awaited still
   pub reminder-told : {out out' : List ℕ} {k : ℕ} → Asks w w' 111 (Feeds i) → Tells w' out out' k (item_output (awaited_in (phase_in (runtime_in w')))) → lack_of w' out ≡ 0
-      → (x : Item) × ((output_in (part out' 0 26) ≡ some (Hands x)) × (said w i ≡ Reminds 111 x))
+      → (x : Item) × ((output_in (part out' 0 26) ≡ Some (Hands x)) × (said w i ≡ Reminds 111 x))
   unfolding number_of output_of
   reminder-told p t z = (_, (item-of Answer.ReplyAwaited refl p refl t z, sym (moved Answer.ReplyAwaited refl p).output))
 
   pub other-told : {out out' : List ℕ} {k : ℕ} → Asks w w' 113 (Feeds i) → Tells w' out out' k (item_output (awaited_in (phase_in (runtime_in w')))) → lack_of w' out ≡ 0
-      → (x : Item) × ((output_in (part out' 0 26) ≡ some (Hands x)) × (said w i ≡ Reminds 113 x))
+      → (x : Item) × ((output_in (part out' 0 26) ≡ Some (Hands x)) × (said w i ≡ Reminds 113 x))
   unfolding number_of output_of
   other-told p t z = (_, (item-of Answer.OtherAwaited refl p refl t z, sym (moved Answer.OtherAwaited refl p).output))
 
   -- an answer that is told with what it speaks of
   spoken-told : {out out' : List ℕ} {r k : ℕ} (answer : Answer) → r ≡ number_of answer → Asks w w' r (Feeds i) → SpeaksOf w' out out' k answer → lack_of w' out ≡ 0
-      → output_in (part out' 0 26) ≡ some (said w i)
+      → output_in (part out' 0 26) ≡ Some (said w i)
   spoken-told answer n p t z =
       let m = moved answer n p in
-      told-back-of t z m.sound (fits-answered answer w') ∙ ap some m.output
+      told-back-of t z m.sound (fits-answered answer w') ∙ ap Some m.output
 
   -- 35: the lease
   pub lease-told : {out out' : List ℕ} {k : ℕ} → Asks w w' 35 (Feeds i) → SpeaksOf w' out out' k Answer.Leased → lack_of w' out ≡ 0
-      → output_in (part out' 0 26) ≡ some (said w i)
+      → output_in (part out' 0 26) ≡ Some (said w i)
   unfolding number_of
   lease-told = spoken-told Answer.Leased refl
 
   -- 37: the receipt
   pub receipt-told : {out out' : List ℕ} {k : ℕ} → Asks w w' 37 (Feeds i) → SpeaksOf w' out out' k Answer.Submitted → lack_of w' out ≡ 0
-      → output_in (part out' 0 26) ≡ some (said w i)
+      → output_in (part out' 0 26) ≡ Some (said w i)
   unfolding number_of
   receipt-told = spoken-told Answer.Submitted refl
 
@@ -177,6 +178,6 @@ module _ {w w' : List ℕ} {i : Input} (h : Fit w) where
 -- a reading --------------------------------------------------------------------------------------------------------------
 
 pub reading-told : {w out out' : List ℕ} {k : ℕ} (q : Reading) → Fit w → ShowsOf w out out' k q → lack_of w out ≡ 0
-    → output_in (part out' 0 26) ≡ some (said w (Reads q))
+    → output_in (part out' 0 26) ≡ Some (said w (Reads q))
 reading-told {w} q h t z =
-    told-back-of t z h.sound (fits-shown q w) ∙ ap (λ (r : Reaction). some r.output) (sym (reads (phase_in (runtime_in w)) q))
+    told-back-of t z h.sound (fits-shown q w) ∙ ap (λ (r : Reaction). Some r.output) (sym (reads (phase_in (runtime_in w)) q))

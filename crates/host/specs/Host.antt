@@ -1,7 +1,7 @@
 -- What a host that lends words is promised by each function (docs/HOST.md), in three parts: words that are not lent as they have to be are turned away and left;
 -- whatever lent words hold, there is an answer, and as many words; where they are a sound runtime's, they stand where the rules say.
 use Rattle.std.specs.Prelude.{ℕ, zero, suc, ◌-◌, ◌*◌, ◌/◌, ◌%◌, ◌≤◌, ◌<◌, Bool, true, false, cond, ◌&&◌, List, [], ◌∷◌, ◌++◌, ◌≡◌, eqb, ltb, ℤ, length, get_or, replicate}
-use Rattle.std.proofs.Math.Option.{Option, some, none}
+use Rattle.std.specs.Prelude.{Option, Some, None}
 use Rattle.model.specs.Reasons.{number}
 use Rattle.model.specs.declared.Capability.{Capability}
 use Rattle.model.specs.declared.Observation.{Observation}
@@ -108,7 +108,7 @@ renewal_with owner lease renewal duration time =
 
 -- what the driver observed; with `ok` false the values are not read
 abbrev pub observed_with : Bool → ℤ → ℤ → ℕ → Option Observation
-observed_with ok v u sensed = cond ok (some (record { parameters = v ∷ u ∷ []; state = sensed })) none
+observed_with ok v u sensed = cond ok (Some (record { parameters = v ∷ u ∷ []; state = sensed })) None
 
 -- a start ----------------------------------------------------------------------------------------------------------------
 
@@ -211,8 +211,8 @@ SpeaksOf w out out' r a = Tells w out out' r (output_of a (state_in (runtime_in 
 
 -- the item whose reply is awaited, or that none is
 abbrev pub item_output : Option Item → Output
-item_output none = Refuses 112
-item_output (some x) = Hands x
+item_output None = Refuses 112
+item_output (Some x) = Hands x
 
 abbrev output_as : ItemKind → ItemShown → Output
 output_as ItemKind.Nothing s = Refuses 112

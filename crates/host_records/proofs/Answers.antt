@@ -2,7 +2,7 @@
 use Prim.Native.Nat.{ℕ, ◌<◌}
 use mathlib.Core.Bool.{Bool, true, false, false≢true, cond}
 use mathlib.Core.List.{List, []}
-use mathlib.Core.Option.{some, none}
+use Rattle.std.specs.Prelude.{Some, None}
 use mathlib.Core.Path.{◌≡◌, refl, sym, ap, ◌∙◌, subst}
 use native.Mathlib.Omega.{arith}
 use lib.IntN.{ℤ}
@@ -77,11 +77,11 @@ item-put h n w c k m f p x t e =
 
 -- what is seen -------------------------------------------------------------------------------------------------------------
 
-seen_if : (b : Bool) (o : Observation) → observation_if (cond b Present Absent) o ≡ cond b (some o) none
+seen_if : (b : Bool) (o : Observation) → observation_if (cond b Present Absent) o ≡ cond b (Some o) None
 seen_if true o = refl
 seen_if false o = refl
 
-pub seen_as : {p : Presence} {b b' : Bool} {o o' : Observation} → p ≡ cond b Present Absent → b ≡ b' → o ≡ o' → observation_if p o ≡ cond b' (some o') none
+pub seen_as : {p : Presence} {b b' : Bool} {o o' : Observation} → p ≡ cond b Present Absent → b ≡ b' → o ≡ o' → observation_if p o ≡ cond b' (Some o') None
 seen_as {b' = b'} {o' = o'} e f g = rw (e, f, g) (seen_if b' o')
 
 -- a step by another input that is the same

@@ -2,7 +2,7 @@
 use Prim.Native.Nat.{ℕ, ◌<◌}
 use mathlib.Core.Bool.{Bool, true, false, false≢true}
 use mathlib.Core.List.{List}
-use mathlib.Core.Option.{some}
+use Rattle.std.specs.Prelude.{Some}
 use mathlib.Core.Path.{◌≡◌, refl, sym, ap, ◌∙◌, subst}
 use borrow.Author.Tests.{lt-ltb}
 use native.Mathlib.Omega.{arith}
@@ -104,7 +104,7 @@ Completes fixed numbers carrying capability submission seen r =
     (t : Tables) (q : Asked) (h : Hand) → Sound (state fixed numbers t q h) → q.submission ≡ submission → h.order.capability ≡ capability
     → carries h.waiting.awaited ≡ true
     → Moves (completed r capability.resource (state fixed numbers t q h)) Answer.Item
-    (proceed (complete capability carrying.end (seen_by carrying.pre_state submission.now (some seen)) submission (book_of fixed numbers t)))
+    (proceed (complete capability carrying.end (seen_by carrying.pre_state submission.now (Some seen)) submission (book_of fixed numbers t)))
 
 abbrev finishing : Completing → ℕ → Runtime → Runtime
 finishing c i h = with_active (set h.active i c.active) (with_numbers (completing c.soonest h.numbers) h)
@@ -118,7 +118,7 @@ pub completes-on : {w w₁ w₂ w₃ : List ℕ} {fixed : Fixed} {numbers next :
     → Goes w w₃ Answer.Item (Good (runtime_in w) × ((runtime_in w).waiting.awaited ≡ ObserveAfter))
     (proceed
     (complete (order_in (runtime_in w)).capability (runtime_in w).carrying.end
-    (seen_by (runtime_in w).carrying.pre_state (runtime_in w).submission.now (some seen)) (runtime_in w).submission (book_on (runtime_in w))))
+    (seen_by (runtime_in w).carrying.pre_state (runtime_in w).submission.now (Some seen)) (runtime_in w).submission (book_on (runtime_in w))))
 completes-on {w} {axis = axis} seen c f n ca cp s says ne ax p₁ p₂ q =
     let h = runtime_in w in
     let i = (order_in h).capability.resource in
@@ -281,7 +281,7 @@ pub completes-seen : {w w' : List ℕ} {r : Answer} (o : Observed) (k : OnObserv
     → Goes w w' r (Good (runtime_in w) × ((runtime_in w).waiting.awaited ≡ ObserveAfter))
     (proceed
     (complete (order_in (runtime_in w)).capability (runtime_in w).carrying.end
-    (seen_by (runtime_in w).carrying.pre_state (runtime_in w).submission.now (some o.observation)) (runtime_in w).submission (book_on (runtime_in w))))
+    (seen_by (runtime_in w).carrying.pre_state (runtime_in w).submission.now (Some o.observation)) (runtime_in w).submission (book_on (runtime_in w))))
     → Turns w w' r (Good (runtime_in w)) (react (phase_of (state_in (runtime_in w))) (Replies (Protocol.Observed (observation_in o))))
 completes-seen {w} o k e f p =
     let h = runtime_in w in

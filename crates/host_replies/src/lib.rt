@@ -3,7 +3,7 @@
 // `host_store`, and on `host_steps` for the call in hand.
 #![tactic(auto)]
 
-ghost use Rattle.std.proofs.Math.Option.{some};
+ghost use Rattle.std.specs.Prelude.{Some};
 ghost use Rattle.std.specs.Prelude.{◌≡◌};
 ghost use Rattle.rules.specs.Interaction.{Done, Submitted, Succeeded};
 ghost use Rattle.rules.specs.Protocol.{proceed, react, Replies, Observed as ObservedReply, Executed as ExecutedReply, FellBack as FellBackReply, Recorded as RecordedReply};
@@ -67,7 +67,7 @@ fn completing(numbers: Numbers, soonest: u64) -> Numbers
 // What an executed order leaves, and its receipt.
 fn complete(state: &mut [u64], seen: Observation) -> Answer
     requires { Long state.old }
-    ensures { Goes state.old state.new result (Good (runtime_in state.old) × ((runtime_in state.old).waiting.awaited ≡ ObserveAfter)) (proceed (complete_rule (order_in (runtime_in state.old)).capability (runtime_in state.old).carrying.end (seen_by (runtime_in state.old).carrying.pre_state (runtime_in state.old).submission.now (some seen)) (runtime_in state.old).submission (book_on (runtime_in state.old)))) }
+    ensures { Goes state.old state.new result (Good (runtime_in state.old) × ((runtime_in state.old).waiting.awaited ≡ ObserveAfter)) (proceed (complete_rule (order_in (runtime_in state.old)).capability (runtime_in state.old).carrying.end (seen_by (runtime_in state.old).carrying.pre_state (runtime_in state.old).submission.now (Some seen)) (runtime_in state.old).submission (book_on (runtime_in state.old)))) }
 {
     let fixed = fixed_in(state);
     let numbers = numbers_in(state);

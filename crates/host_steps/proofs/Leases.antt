@@ -2,7 +2,7 @@
 use Prim.Native.Nat.{ℕ, ◌+◌, ◌-◌, ◌<◌, ◌≤◌}
 use mathlib.Core.Bool.{Bool, true, false, ◌&&◌, false≢true}
 use mathlib.Core.List.{List}
-use mathlib.Core.Option.{none}
+use Rattle.std.specs.Prelude.{None}
 use mathlib.Core.Path.{◌≡◌, sym, subst, ◌∙◌}
 use borrow.Author.Tests.{ltb-true, leb-true, lt-ltb, le-ltb, le-leb}
 use native.Mathlib.Nat.{add_comm}
@@ -83,11 +83,11 @@ records-goes {rejection = rejection} {after} {receipt} {r} {x} given p q k m =
 -- a grant ---------------------------------------------------------------------------------------------------------------------
 
 abbrev Granted : List ℕ → ℕ → Type 0
-Granted w time = Good (runtime_in w) × (first_failing (acquire_checks (runtime_in w).request time (book_on (runtime_in w))) ≡ none)
+Granted w time = Good (runtime_in w) × (first_failing (acquire_checks (runtime_in w).request time (book_on (runtime_in w))) ≡ None)
 
 pub unfit-grant : {w w' : List ℕ} {r : Answer} (request : LeaseRequest) (time : ℕ) {b : Bool} {x : Reaction} → request ≡ (runtime_in w).request
     → b ≡ (ltb request.resource 8 && leb (time + request.duration_ms) top) → b ≡ false → Goes w w' r (Good (runtime_in w)) x
-    → Goes w w' r (Granted w time) (proceed (grant none (runtime_in w).request time (book_on (runtime_in w))))
+    → Goes w w' r (Granted w time) (proceed (grant None (runtime_in w).request time (book_on (runtime_in w))))
 unfit-grant {w} request time q e f l =
     record {
       same = l.same;
@@ -96,13 +96,13 @@ unfit-grant {w} request time q e f l =
 
 pub grant-goes : {w a b d w' : List ℕ} {request : LeaseRequest} {fixed : Fixed} {numbers : Numbers} (time : ℕ) (g : Granting)
     → request ≡ (runtime_in w).request → fixed ≡ (runtime_in w).fixed → numbers ≡ (runtime_in w).numbers
-    → ((t : Tables) (q : Asked) (h : Hand) → Sound (state fixed numbers t q h) → get_or t.leases request.resource none ≡ none
-    → Moves (granted g request.resource (state fixed numbers t q h)) Answer.Item (proceed (grant none request time (book_of fixed numbers t))))
+    → ((t : Tables) (q : Asked) (h : Hand) → Sound (state fixed numbers t q h) → get_or t.leases request.resource None ≡ None
+    → Moves (granted g request.resource (state fixed numbers t q h)) Answer.Item (proceed (grant None request time (book_of fixed numbers t))))
     → (x : Numbers) → x ≡ numbers_with g.next_lease g.epoch g.mode g.held g.soonest numbers
     → Becomes w a (with_numbers x (runtime_in w)) → Becomes a b (with_axis request.resource (runtime_in a))
     → Becomes b d (with_leases (set (runtime_in b).leases request.resource g.lease) (runtime_in b))
     → RecordsIn false AfterRecord.Lease g.receipt d w'
-    → Goes w w' Answer.Item (Granted w time) (proceed (grant none (runtime_in w).request time (book_on (runtime_in w))))
+    → Goes w w' Answer.Item (Granted w time) (proceed (grant None (runtime_in w).request time (book_on (runtime_in w))))
 grant-goes {w} time g q f n says x ex put-n put_a put-l rec =
     let h = runtime_in w in
     let i = h.request.resource in
@@ -125,7 +125,7 @@ module _ (w : List ℕ) (request : LeaseRequest) (fixed : Fixed) (numbers : Numb
       (rw (q, f, n, s, a, m g, q) at says) (tables_in (runtime_in w)) (asked_in (runtime_in w)) (hand_in (runtime_in w)) g.sound (request-shown (runtime_in w) g)
 
   pub acquire-passed : {w' : List ℕ} {r : Answer} → ruling.verdict ≡ Verdict.Passed
-      → Goes w w' r (Granted w time) (proceed (grant none (runtime_in w).request time (book_on (runtime_in w))))
+      → Goes w w' r (Granted w time) (proceed (grant None (runtime_in w).request time (book_on (runtime_in w))))
       → Goes w w' r (Good (runtime_in w))
       (proceed (grant (first_failing (acquire_checks (runtime_in w).request time (book_on (runtime_in w)))) (runtime_in w).request time (book_on (runtime_in w))))
   acquire-passed {w'} {r} v l =
@@ -149,11 +149,11 @@ abbrev Renewed : List ℕ → ℕ → Type 0
 Renewed w axis =
     Good (runtime_in w)
     × ((axis ≡ first_held (runtime_in w).renewal.owner (runtime_in w).renewal.lease_id (tables_in (runtime_in w)).leases)
-    × (first_failing (renew_checks (runtime_in w).renewal (book_on (runtime_in w))) ≡ none))
+    × (first_failing (renew_checks (runtime_in w).renewal (book_on (runtime_in w))) ≡ None))
 
 pub unfit-renewal : {w w' : List ℕ} {r : Answer} (renewal : Renewal) (axis : ℕ) {b : Bool} {x : Reaction} → renewal ≡ (runtime_in w).renewal
     → b ≡ (ltb axis 8 && leb (renewal.now + renewal.duration_ms) top) → b ≡ false
-    → Goes w w' r (Good (runtime_in w)) x → Goes w w' r (Renewed w axis) (proceed (renewed none (runtime_in w).renewal (book_on (runtime_in w))))
+    → Goes w w' r (Good (runtime_in w)) x → Goes w w' r (Renewed w axis) (proceed (renewed None (runtime_in w).renewal (book_on (runtime_in w))))
 unfit-renewal {w} renewal axis q e f l =
     record {
       same = l.same;
@@ -163,12 +163,12 @@ unfit-renewal {w} renewal axis q e f l =
 pub lengthen-goes : {w a b d w' : List ℕ} {renewal : Renewal} {fixed : Fixed} {numbers : Numbers} {slot : LeaseSlot} (axis : ℕ) (g : Renewing)
     → renewal ≡ (runtime_in w).renewal → fixed ≡ (runtime_in w).fixed → numbers ≡ (runtime_in w).numbers → slot ≡ get_or (runtime_in w).leases axis no_lease
     → ((t : Tables) (q : Asked) (h : Hand) → Sound (state fixed numbers t q h) → ShowsHeld renewal.owner renewal.lease_id axis slot t
-    → Moves (lengthened g axis renewal.renewal (state fixed numbers t q h)) Answer.Item (proceed (renewed none renewal (book_of fixed numbers t))))
+    → Moves (lengthened g axis renewal.renewal (state fixed numbers t q h)) Answer.Item (proceed (renewed None renewal (book_of fixed numbers t))))
     → (x : Numbers) → x ≡ numbers_with numbers.next_lease numbers.epoch numbers.mode numbers.held g.soonest numbers
     → Becomes w a (with_numbers x (runtime_in w)) → Becomes a b (with_axis axis (runtime_in a))
     → (y : LeaseSlot) → y ≡ lengthened_slot g.expires_at renewal.renewal slot → Becomes b d (with_leases (set (runtime_in b).leases axis y) (runtime_in b))
     → RecordsIn false AfterRecord.Lease g.receipt d w'
-    → Goes w w' Answer.Item (Renewed w axis) (proceed (renewed none (runtime_in w).renewal (book_on (runtime_in w))))
+    → Goes w w' Answer.Item (Renewed w axis) (proceed (renewed None (runtime_in w).renewal (book_on (runtime_in w))))
 lengthen-goes {w} axis g q f n s says x ex put-n put_a y ey put-l rec =
     let h = runtime_in w in
     let new = lengthened_slot g.expires_at h.renewal.renewal (get_or h.leases axis no_lease) in
@@ -199,7 +199,7 @@ module _ (w : List ℕ) (renewal : Renewal) (fixed : Fixed) (numbers : Numbers) 
   renew-ruled g = (rw (q, f, n, s) at says) (tables_in (runtime_in w)) (held-shown (runtime_in w) g _ _ axis (held-so g) held.1)
 
   pub renew-passed : {w' : List ℕ} {r : Answer} → ruling.verdict ≡ Verdict.Passed
-      → Goes w w' r (Renewed w axis) (proceed (renewed none (runtime_in w).renewal (book_on (runtime_in w))))
+      → Goes w w' r (Renewed w axis) (proceed (renewed None (runtime_in w).renewal (book_on (runtime_in w))))
       → Goes w w' r (Good (runtime_in w))
       (proceed (renewed (first_failing (renew_checks (runtime_in w).renewal (book_on (runtime_in w)))) (runtime_in w).renewal (book_on (runtime_in w))))
   renew-passed {w'} {r} v l =

@@ -2,7 +2,7 @@
 use Prim.Native.Nat.{ℕ, ◌+◌, ◌%◌, ◌≤◌}
 use mathlib.Core.Bool.{Bool, true, false, cond, not, false≢true}
 use mathlib.Core.List.{List}
-use mathlib.Core.Option.{some, none}
+use Rattle.std.specs.Prelude.{Some, None}
 use mathlib.Core.Path.{◌≡◌, refl, sym, ap, ◌∙◌, subst}
 use borrow.Author.Tests.{le-leb, leb-true, not-true, not-false}
 use native.Mathlib.Nat.{mod-lt}
@@ -105,7 +105,7 @@ pub end-unfit : (w : List ℕ) {submission : Submission} (at : ℕ) (b : Bool) �
     → b ≡ leb (submission.received_at + submission.action.valid_for_ms) top → not b ≡ true
     → (Good (runtime_in w)
     × (FoundIn (runtime_in w).submission.action.capability at (runtime_in w)
-    × (first_failing (admission (runtime_in w).submission (book_on (runtime_in w))) ≡ none)))
+    × (first_failing (admission (runtime_in w).submission (book_on (runtime_in w))) ≡ None)))
     → ⊥
 unfolding valid_until
 end-unfit w at b s e t g =
@@ -114,7 +114,7 @@ end-unfit w at b s e t g =
 abbrev Admits : Numbers → LeaseSlot → Submission → Admitting → Type 0
 Admits numbers slot submission r =
     (f : Fixed) (t : Tables) (q : Asked) (h : Hand) (c : Capability) → Sound (state f numbers t q h) → q.submission ≡ submission
-    → ShowsOrder submission.action.capability true c slot t → first_failing (admission submission (book_of f numbers t)) ≡ none
+    → ShowsOrder submission.action.capability true c slot t → first_failing (admission submission (book_of f numbers t)) ≡ None
     → Moves (admitted_in r c submission.action.sequence (state f numbers t q h)) Answer.Item
     (proceed (admit (validate submission (book_of f numbers t)) submission (book_of f numbers t)))
 
@@ -134,7 +134,7 @@ pub admits-on : {w w₁ w₂ w₃ w₄ w₅ : List ℕ} {submission : Submission
     → Goes w w₅ Answer.Item
     (Good (runtime_in w)
     × (FoundIn (runtime_in w).submission.action.capability at (runtime_in w)
-    × (first_failing (admission (runtime_in w).submission (book_on (runtime_in w))) ≡ none)))
+    × (first_failing (admission (runtime_in w).submission (book_on (runtime_in w))) ≡ None)))
     (proceed (admit (validate (runtime_in w).submission (book_on (runtime_in w))) (runtime_in w).submission (book_on (runtime_in w))))
 admits-on {w} {cursor = cursor} {axis = axis} {seen = seen} {next = next} {entry = entry} at r s n cu ca cp ax sl says we ne se ee p₁ p₂ p₃ p₄ p₅ =
     let h = runtime_in w in
@@ -180,19 +180,19 @@ module _ (w : List ℕ) {submission : Submission} {fixed : Fixed} {numbers : Num
   ruled g = order-ruled (runtime_in w) g at (found g) early (shown g) hit (hits g) ruling (rw (s, n, sl, ax, cp) at rule)
 
   fails-so : ruling.verdict ≡ Verdict.Failed → Good (runtime_in w)
-      → first_failing (admission (runtime_in w).submission (book_on (runtime_in w))) ≡ some ruling.reason
+      → first_failing (admission (runtime_in w).submission (book_on (runtime_in w))) ≡ Some ruling.reason
   fails-so e g = failed-so ruling (ruled g) e
 
   pub admits-then : {w' : List ℕ} {a : Answer} {x : Reaction} → ruling.verdict ≡ Verdict.Passed
       → Goes w w' a
       (Good (runtime_in w)
       × (FoundIn (runtime_in w).submission.action.capability at (runtime_in w)
-      × (first_failing (admission (runtime_in w).submission (book_on (runtime_in w))) ≡ none)))
+      × (first_failing (admission (runtime_in w).submission (book_on (runtime_in w))) ≡ None)))
       x
       → Goes w w' a (Good (runtime_in w)) x
   admits-then e p = record { same = p.same; moves = λ g. p.moves (g, (found g, passed-so ruling (ruled g) e)) }
 
-  pub rejects-then : {w' : List ℕ} {a : Answer} {resource : ℕ} → resource ≡ axis_or255 (cond (ltb at 16) (some capability) none) → ruling.verdict ≡ Verdict.Failed
+  pub rejects-then : {w' : List ℕ} {a : Answer} {resource : ℕ} → resource ≡ axis_or255 (cond (ltb at 16) (Some capability) None) → ruling.verdict ≡ Verdict.Failed
       → Goes w w' a
       (Good (runtime_in w)
       × ((axis_or255 (order_capability (runtime_in w).submission (book_on (runtime_in w))) ≡ resource)

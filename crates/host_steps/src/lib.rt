@@ -3,7 +3,7 @@
 #![tactic(auto)]
 
 ghost use Rattle.std.specs.Prelude.{◌+◌, ◌<◌, true, ◌&&◌, ◌≡◌, leb, ltb};
-ghost use Rattle.std.proofs.Math.Option.{none};
+ghost use Rattle.std.specs.Prelude.{None};
 ghost use Rattle.rules.specs.Admission.{first_failing, acquire_checks, renew_checks, held_axis, order_capability, admission, validate};
 ghost use Rattle.rules.specs.Interaction.{Done, Returned, Polled};
 ghost use Rattle.rules.specs.Protocol.{proceed};
@@ -146,7 +146,7 @@ fn numbers_with(
 // A lease and its receipt.
 fn grant(state: &mut [u64], time: u64) -> Answer
     requires { Long state.old }
-    ensures { Goes state.old state.new result (Good (runtime_in state.old) × (first_failing (acquire_checks (runtime_in state.old).request time (book_on (runtime_in state.old))) ≡ none)) (proceed (grant_rule none (runtime_in state.old).request time (book_on (runtime_in state.old)))) }
+    ensures { Goes state.old state.new result (Good (runtime_in state.old) × (first_failing (acquire_checks (runtime_in state.old).request time (book_on (runtime_in state.old))) ≡ None)) (proceed (grant_rule None (runtime_in state.old).request time (book_on (runtime_in state.old)))) }
 {
     let request = request_in(state);
     let fixed = fixed_in(state);
@@ -210,7 +210,7 @@ fn lengthened(slot: LeaseSlot, expires_at: u64, renewal: u64) -> LeaseSlot
 // A lease's new end, and its receipt.
 fn lengthen(state: &mut [u64], axis: u8) -> Answer
     requires { Long state.old × (axis < 9) }
-    ensures { Goes state.old state.new result (Good (runtime_in state.old) × ((axis ≡ first_held (runtime_in state.old).renewal.owner (runtime_in state.old).renewal.lease_id (tables_in (runtime_in state.old)).leases) × (first_failing (renew_checks (runtime_in state.old).renewal (book_on (runtime_in state.old))) ≡ none))) (proceed (renewed_rule none (runtime_in state.old).renewal (book_on (runtime_in state.old)))) }
+    ensures { Goes state.old state.new result (Good (runtime_in state.old) × ((axis ≡ first_held (runtime_in state.old).renewal.owner (runtime_in state.old).renewal.lease_id (tables_in (runtime_in state.old)).leases) × (first_failing (renew_checks (runtime_in state.old).renewal (book_on (runtime_in state.old))) ≡ None))) (proceed (renewed_rule None (runtime_in state.old).renewal (book_on (runtime_in state.old)))) }
 {
     let renewal = renewal_in(state);
     let fixed = fixed_in(state);
@@ -297,7 +297,7 @@ fn sequenced(slot: LeaseSlot, sequence: u64) -> LeaseSlot
 // An order admitted: its sequence and its number are consumed.
 fn admit(state: &mut [u64], at: usize) -> Answer
     requires { Long state.old × (at < 17) }
-    ensures { Goes state.old state.new result (Good (runtime_in state.old) × (FoundIn (runtime_in state.old).submission.action.capability at (runtime_in state.old) × (first_failing (admission (runtime_in state.old).submission (book_on (runtime_in state.old))) ≡ none))) (proceed (admit_rule (validate (runtime_in state.old).submission (book_on (runtime_in state.old))) (runtime_in state.old).submission (book_on (runtime_in state.old)))) }
+    ensures { Goes state.old state.new result (Good (runtime_in state.old) × (FoundIn (runtime_in state.old).submission.action.capability at (runtime_in state.old) × (first_failing (admission (runtime_in state.old).submission (book_on (runtime_in state.old))) ≡ None))) (proceed (admit_rule (validate (runtime_in state.old).submission (book_on (runtime_in state.old))) (runtime_in state.old).submission (book_on (runtime_in state.old)))) }
 {
     let submission = submission_in(state);
     let action = submission.action;

@@ -4,7 +4,7 @@ use Prim.Native.Nat.{ℕ}
 use mathlib.Core.Bool.{false, false≢true}
 use mathlib.Core.List.{List, ◌∷◌, reverse}
 use mathlib.Core.Logic.{◌≢◌}
-use mathlib.Core.Option.{Option, some, none}
+use Rattle.std.specs.Prelude.{Option, Some, None}
 use mathlib.Core.Path.{◌≡◌, refl, sym, ap, ◌∙◌}
 use lib.Dec.{eqb}
 use lib.IntN.{ℤ}
@@ -32,23 +32,23 @@ use Rattle.lives.proofs.Lent.{step, end-by-the-history, sound-at-the-end, item-b
 -- what is shown of an item gives it back
 pub shown-says : (x : Option Item) → item_says (shown_item x) ≡ x
 unfolding shown_item
-shown-says none = refl
-shown-says (some (ItemObserve axis)) = refl
-shown-says (some (ItemExecute c ps)) = refl
-shown-says (some (ItemFallback axis reason)) = refl
-shown-says (some (ItemRecord r)) = refl
+shown-says None = refl
+shown-says (Some (ItemObserve axis)) = refl
+shown-says (Some (ItemExecute c ps)) = refl
+shown-says (Some (ItemFallback axis reason)) = refl
+shown-says (Some (ItemRecord r)) = refl
 
 pub rest-blank : (x : Option Item) → RestBlank (shown_item x)
 unfolding shown_item
-rest-blank none =
+rest-blank None =
     record { axis = λ o f. refl; reason = λ f. refl; capability = λ e. refl; parameters = λ e. refl; receipt = λ r. refl }
-rest-blank (some (ItemObserve axis)) =
+rest-blank (Some (ItemObserve axis)) =
     record { axis = λ o f. absurd (o refl); reason = λ f. refl; capability = λ e. refl; parameters = λ e. refl; receipt = λ r. refl }
-rest-blank (some (ItemExecute c ps)) =
+rest-blank (Some (ItemExecute c ps)) =
     record { axis = λ o f. refl; reason = λ f. refl; capability = λ e. absurd (e refl); parameters = λ e. absurd (e refl); receipt = λ r. refl }
-rest-blank (some (ItemFallback axis reason)) =
+rest-blank (Some (ItemFallback axis reason)) =
     record { axis = λ o f. absurd (f refl); reason = λ f. absurd (f refl); capability = λ e. refl; parameters = λ e. refl; receipt = λ r. refl }
-rest-blank (some (ItemRecord r)) =
+rest-blank (Some (ItemRecord r)) =
     record { axis = λ o f. refl; reason = λ f. refl; capability = λ e. refl; parameters = λ e. refl; receipt = λ r. absurd (r refl) }
 
 -- .. and nothing else can be shown: the item and the blanks are all of it
@@ -90,12 +90,12 @@ item-told c r p =
 -- what an answer speaks of ---------------------------------------------------------------------------------------------
 
 -- what is handed out is awaited from then on
-awaited-now : (s : Start) (h : History) (i : Input) (x : Item) → output_after s (i ∷ h) ≡ Hands x → awaited_in (phase_after s (i ∷ h)) ≡ some x
+awaited-now : (s : Start) (h : History) (i : Input) (x : Item) → output_after s (i ∷ h) ≡ Hands x → awaited_in (phase_after s (i ∷ h)) ≡ Some x
 unfolding output_after log_of logged handed awaited
 awaited-now s h i x e = sym (stands s (i ∷ h)) ∙ ap (λ out. awaited (logged i out (log_of s h))) e
 
 told : {rt : Runtime} {answer : Answer} {out : Output} → RuntimeSound rt
-    → ((x : Item) → output_in answer rt ≡ Hands x → awaited_in (phase_in rt) ≡ some x) → Told rt answer out → output_in answer rt ≡ out
+    → ((x : Item) → output_in answer rt ≡ Hands x → awaited_in (phase_in rt) ≡ Some x) → Told rt answer out → output_in answer rt ≡ out
 unfolding output_of
 told h now (item r x p e) = cc (ap item_says (p h) ∙ shown-says _, now _ refl)
 told h now (lease r p) = p h

@@ -2,7 +2,7 @@
 -- and an axis without a lease, an index past the records or past the receipts shows a blank, whatever stands in its place. Assumes nothing.
 use Prim.Native.Nat.{ℕ}
 use mathlib.Core.Bool.{Bool, true, false, false≢true}
-use mathlib.Core.Option.{none}
+use Rattle.std.specs.Prelude.{None}
 use mathlib.Core.Path.{◌≡◌, refl, sym, ap, ◌∙◌}
 use Rattle.model.specs.declared.Capability.{Capability}
 use Rattle.model.specs.declared.LeaseSlot.{LeaseSlot}
@@ -41,7 +41,7 @@ hides says e Absent z = refl
 hides says e Present z = absurd (false≢true (sym (ap is_shown z) ∙ e))
 
 -- before a start has ended, and after a refused one
-module _ (rt : Runtime) (e : book_in (phase_in rt) ≡ none) where
+module _ (rt : Runtime) (e : book_in (phase_in rt) ≡ None) where
   nothing : (q : Reading) → shown q (book_in (phase_in rt)) ≡ NoRuntime
   unfolding shown
   nothing q = ap (shown q) e
@@ -90,17 +90,17 @@ module _ (rt : Runtime) (e : book_in (phase_in rt) ≡ none) where
 
 -- what there is not while there is a runtime ----------------------------------------------------------------------------
 
-no-lease : (p : Presence) (s : LeaseSlot) → lease_says (record { runtime = p; slot = s }) ≡ Shows (OfLease none) → (p ≡ Present) × (lease_in s ≡ none)
+no-lease : (p : Presence) (s : LeaseSlot) → lease_says (record { runtime = p; slot = s }) ≡ Shows (OfLease None) → (p ≡ Present) × (lease_in s ≡ None)
 no-lease Absent s e = (cc, cc)
 no-lease Present s e = (refl, cc)
 
-no-capability : (p q : Presence) (c : Capability) → capability_says (record { runtime = p; presence = q; capability = c }) ≡ Shows (OfCapability none)
+no-capability : (p q : Presence) (c : Capability) → capability_says (record { runtime = p; presence = q; capability = c }) ≡ Shows (OfCapability None)
     → (p ≡ Present) × (q ≡ Absent)
 no-capability Absent q c e = (cc, cc)
 no-capability Present Absent c e = (refl, refl)
 no-capability Present Present c e = (refl, cc)
 
-no-receipt : (p q : Presence) (x : Receipt) → receipt_says (record { runtime = p; presence = q; receipt = x }) ≡ Shows (OfReceipt none)
+no-receipt : (p q : Presence) (x : Receipt) → receipt_says (record { runtime = p; presence = q; receipt = x }) ≡ Shows (OfReceipt None)
     → (p ≡ Present) × (q ≡ Absent)
 no-receipt Absent q x e = (cc, cc)
 no-receipt Present Absent x e = (refl, refl)
@@ -109,19 +109,19 @@ no-receipt Present Present x e = (refl, cc)
 -- 01: "`lease` with axis 8 or more and `receipt` with an index at or past the count return none", and so does `capabilities`: nothing of what stands in
 -- the place is shown with it
 module _ (rt : Runtime) where
-  pub no-lease-shown : (axis : ℕ) (r : LeaseShown) → LeaseReads axis rt r → shown (ReadLease axis) (book_in (phase_in rt)) ≡ Shows (OfLease none)
+  pub no-lease-shown : (axis : ℕ) (r : LeaseShown) → LeaseReads axis rt r → shown (ReadLease axis) (book_in (phase_in rt)) ≡ Shows (OfLease None)
       → (r.runtime ≡ Present) × (r.slot ≡ no_lease)
   no-lease-shown axis r k e = let n = no-lease r.runtime r.slot (k.shows ∙ e) in (n.0, k.blank n.1)
 
   pub no-capability-shown : (index : ℕ) (r : CapabilityShown) → CapabilityReads index rt r
-      → shown (ReadCapability index) (book_in (phase_in rt)) ≡ Shows (OfCapability none)
+      → shown (ReadCapability index) (book_in (phase_in rt)) ≡ Shows (OfCapability None)
       → (r.runtime ≡ Present) × ((r.presence ≡ Absent) × (r.capability ≡ no_capability))
   no-capability-shown index r k e =
       let n = no-capability r.runtime r.presence r.capability (k.shows ∙ e) in
       (n.0, (n.1, k.blank n.1))
 
   pub no-receipt-shown : (index : ℕ) (r : ReceiptShown) → ReceiptReads index rt r
-      → shown (ReadReceipt index) (book_in (phase_in rt)) ≡ Shows (OfReceipt none)
+      → shown (ReadReceipt index) (book_in (phase_in rt)) ≡ Shows (OfReceipt None)
       → (r.runtime ≡ Present) × ((r.presence ≡ Absent) × (r.receipt ≡ no_receipt))
   no-receipt-shown index r k e =
       let n = no-receipt r.runtime r.presence r.receipt (k.shows ∙ e) in

@@ -1,6 +1,6 @@
 -- What a host is told where it asks a lent runtime, as the functions promise it that tell it (proofs/Link), and how it reads that by itself.
 use Rattle.std.specs.Prelude.{[], ◌∷◌, ◌≢◌, ◌≡◌, pos}
-use Rattle.std.proofs.Math.Option.{Option, some, none}
+use Rattle.std.specs.Prelude.{Option, Some, None}
 use Rattle.model.specs.Records.{no_receipt}
 use Rattle.model.specs.declared.Lease.{Lease}
 use Rattle.model.specs.declared.Reason.{Reason}
@@ -25,11 +25,11 @@ abbrev pub ItemTold : Runtime → ItemShown → Type 0
 ItemTold rt r = r ≡ shown_item (awaited_in (phase_in rt))
 
 abbrev pub said_by : ItemKind → ItemShown → Option Item
-said_by ItemKind.Nothing r = none
-said_by ItemKind.Observe r = some (ItemObserve r.axis)
-said_by ItemKind.Execute r = some (ItemExecute r.capability r.parameters)
-said_by ItemKind.Fallback r = some (ItemFallback r.axis r.reason)
-said_by ItemKind.Record r = some (ItemRecord r.receipt)
+said_by ItemKind.Nothing r = None
+said_by ItemKind.Observe r = Some (ItemObserve r.axis)
+said_by ItemKind.Execute r = Some (ItemExecute r.capability r.parameters)
+said_by ItemKind.Fallback r = Some (ItemFallback r.axis r.reason)
+said_by ItemKind.Record r = Some (ItemRecord r.receipt)
 
 -- the item in the rules' words, or none: by the kind that is shown, from the fields that this kind has
 abbrev pub item_says : ItemShown → Option Item
@@ -57,7 +57,7 @@ RefusalTold rt r = output_in Answer.Refused rt ≡ Answers (Refused r)
 
 -- 01's output, by the answer of a call or a reply and by what the function of that answer then told
 pub data Told (rt : Runtime) : Answer → Output → Type 0 where
-  item : (r : ItemShown) (x : Item) → (RuntimeSound rt → ItemTold rt r) → item_says r ≡ some x → Told rt Answer.Item (Hands x)
+  item : (r : ItemShown) (x : Item) → (RuntimeSound rt → ItemTold rt r) → item_says r ≡ Some x → Told rt Answer.Item (Hands x)
   lease : (r : Lease) → (RuntimeSound rt → LeaseTold rt r) → Told rt Answer.Leased (Answers (Leased r))
   receipt : (r : Receipt) → (RuntimeSound rt → ReceiptTold rt r) → Told rt Answer.Submitted (Answers (Submitted r))
   refusal : (r : Reason) → RefusalTold rt r → Told rt Answer.Refused (Answers (Refused r))

@@ -3,3 +3,4 @@ pub mod Lists
 pub mod Reasons
 pub mod Decisions
 pub mod Meaning
+pub mod Options

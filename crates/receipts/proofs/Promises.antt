@@ -49,22 +49,22 @@ module _ (i : Index) (st : Stores) where
       ∙ order-length i.kinds (rejected_slots i st) (other_slots i st) s.ordered.counted.told
       ∙ counts
 
-abbrev none : Index
-none = record { rejected = circles.none; others = circles.none; kinds = 0 }
+abbrev no_index : Index
+no_index = record { rejected = circles.no_slots; others = circles.no_slots; kinds = 0 }
 
 none-counted : Counted 0 0 0
 unfolding kinds_of
 none-counted = record { small = omega arith; told = refl }
 
-none-numbered : Numbered none
-none-numbered = record { rejections = omega arith; others = omega arith; within = omega arith; counted = none-counted }
+no_index-numbered : Numbered no_index
+no_index-numbered = record { rejections = omega arith; others = omega arith; within = omega arith; counted = none-counted }
 
-opens-none : Opens none
+opens-no_index : Opens no_index
 unfolding list_of slots_of around order kinds_of
-opens-none = record {
-  numbered = none-numbered;
+opens-no_index = record {
+  numbered = no_index-numbered;
   sound = λ st l. record {
-    numbered = none-numbered;
+    numbered = no_index-numbered;
     long = l;
     ordered = record { within = zero-le; counted = none-counted; once = λ s. sym (ap one (le-ltb s 0 zero-le)) };
     sorted = record { rejections = tt; others = tt };
@@ -72,8 +72,8 @@ opens-none = record {
   nothing = λ st. refl;
 }
 
-pub opens : (a b : Circle) → a ≡ circles.none → b ≡ circles.none → Opens (record { rejected = a; others = b; kinds = 0 })
-opens a b p q = rw (p, q) opens-none
+pub opens : (a b : Circle) → a ≡ circles.no_slots → b ≡ circles.no_slots → Opens (record { rejected = a; others = b; kinds = 0 })
+opens a b p q = rw (p, q) opens-no_index
 
 -- room for one more --------------------------------------------------------------------------------------------------
 

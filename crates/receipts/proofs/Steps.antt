@@ -60,8 +60,8 @@ module _ (x a b : ℕ) where
   -- where there is no rejection
   pub counted-oldest : (b' : ℕ) → a ≡ 0 → Counted x a b' → Counted x a b
   counted-oldest b' z c =
-      let none : x ≡ 0 = kinds-zero (a + b') x c.small (c.told ∙ z) in
-      record { small = omega (arith, pow_pos (a + b)); told = rw none (ap trues (kinds-none (a + b)) ∙ trues-none (a + b) ∙ sym z) }
+      let unset : x ≡ 0 = kinds-zero (a + b') x c.small (c.told ∙ z) in
+      record { small = omega (arith, pow_pos (a + b)); told = rw unset (ap trues (kinds-none (a + b)) ∙ trues-none (a + b) ∙ sym z) }
 
 -- a slot is free -----------------------------------------------------------------------------------------------------
 
@@ -108,8 +108,8 @@ module _ (n x t r : ℕ) (rs os : List ℕ) (a : Ordered n x (r ∷ rs) os) (top
 
 -- the oldest of the others, where no rejection is kept
 module _ (n x o : ℕ) (os : List ℕ) (a : Ordered n x [] (o ∷ os)) where
-  none : x ≡ 0
-  none = kinds-zero (0 + suc (length os)) x a.counted.small a.counted.told
+  unset : x ≡ 0
+  unset = kinds-zero (0 + suc (length os)) x a.counted.small a.counted.told
 
   first-other : Dropped n x [] (o ∷ os) x [] os o
   unfolding order
@@ -121,7 +121,7 @@ module _ (n x o : ℕ) (os : List ℕ) (a : Ordered n x [] (o ∷ os)) where
     };
     rejections = λ f y. y;
     others = λ f z. z.1;
-    evicted = λ f y z. rw (none, zero-add (length os), zero-add (suc (length os)), kinds-none (length os), kinds-none (suc (length os))) (merge-oldest f (length os) o os z);
+    evicted = λ f y z. rw (unset, zero-add (length os), zero-add (suc (length os)), kinds-none (length os), kinds-none (suc (length os))) (merge-oldest f (length os) o os z);
   }
 
 empty_of : (xs : List ℕ) → length xs ≡ 0 → xs ≡ []

@@ -8,8 +8,8 @@ unfoldable pub slots_of : Circle → List ℕ → List ℕ
 slots_of c store = around store 64 c.head c.count
 
 -- what `Circle::empty` answers
-abbrev pub none : Circle
-none = record { head = 0; count = 0 }
+abbrev pub no_slots : Circle
+no_slots = record { head = 0; count = 0 }
 
 -- what `Circle::at` answers: the place of the one with this many older
 abbrev pub place_at : Circle → ℕ → ℕ

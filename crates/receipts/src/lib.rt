@@ -9,7 +9,7 @@
 ghost use Rattle.std.specs.Prelude.{◌≡◌, ◌<◌, ◌≤◌, length, slice_get};
 ghost use Rattle.rules.specs.Receipts.{is_rejected};
 ghost use Rattle.receipts.specs.Orders.{wrapped, Top};
-ghost use Rattle.receipts.specs.Circles.{none, place_at, longer_by, shorter_by};
+ghost use Rattle.receipts.specs.Circles.{no_slots, place_at, longer_by, shorter_by};
 ghost use Rattle.receipts.specs.Indexes.{Numbered, Opens, Frees, Pushes, Points};
 ghost use Rattle.receipts.specs.Rings.{Kept, receipts_of, Starts, Records};
 
@@ -31,7 +31,7 @@ fn wrap(i: usize) -> usize
 
 impl Circle {
     fn empty() -> Self
-        ensures { result ≡ none }
+        ensures { result ≡ no_slots }
     {
         Self { head: 0, count: 0 }
     }

@@ -3,7 +3,7 @@ use Prim.Native.Nat.{ℕ, suc, ◌+◌, ◌-◌, ◌%◌, ◌<◌, ◌≤◌}
 use mathlib.Core.Path.{◌≡◌, refl}
 use mathlib.Core.Bool.{true, false, cond}
 use mathlib.Core.List.{List}
-use mathlib.Core.Option.{some, none}
+use Rattle.std.specs.Prelude.{Some, None}
 use lib.ListN.{length, get_or, drop, drop_of_length-le}
 use Rattle.model.specs.declared.Presence.{Presence}
 use Rattle.model.specs.declared.Presence.TheVariants.{Absent, Present}
@@ -16,7 +16,7 @@ use Rattle.replay.proofs.Circle.{length-backwards, backwards-from}
 
 module _ (owner action : ℕ) where
   find-put : (p : Presence) (e : Replay) (es : List Replay)
-      → find_entry owner action (put p e es) ≡ cond (hit_in owner action p e) (some e) (find_entry owner action es)
+      → find_entry owner action (put p e es) ≡ cond (hit_in owner action p e) (Some e) (find_entry owner action es)
   unfolding find_entry put hit_in
   find-put Absent e es = refl
   find-put Present e es = refl
@@ -30,7 +30,7 @@ module _ (owner action : ℕ) where
     abbrev pub left : List Replay
     left = entries_of (drop i (backwards l c))
 
-    pub hit : i < suc m → is_hit owner action reached ≡ true → find_entry owner action left ≡ some reached.replay
+    pub hit : i < suc m → is_hit owner action reached ≡ true → find_entry owner action left ≡ Some reached.replay
     unfolding entries_of
     hit k e = rw (backwards-from m l n c h i no_replay k, find-put, e)
 
@@ -40,6 +40,6 @@ module _ (owner action : ℕ) where
     unfolding entries_of
     miss k e = rw (backwards-from m l n c h i no_replay k, find-put, e)
 
-    pub over : suc m ≤ i → find_entry owner action left ≡ none
+    pub over : suc m ≤ i → find_entry owner action left ≡ None
     unfolding entries_of find_entry
     over k = rw (drop_of_length-le (backwards l c) {i = i} (rw (length-backwards, n) k))

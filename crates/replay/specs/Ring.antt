@@ -1,6 +1,6 @@
 -- The ring as a list: the slots from the cursor backwards, around, and the entries that they hold.
 use Rattle.std.specs.Prelude.{ℕ, zero, suc, Bool, false, List, [], ◌∷◌, ◌++◌, reverse, take, drop, Option, Some, None}
-use Rattle.std.proofs.Math.Option.{some, none}
+use Rattle.std.specs.Prelude.{Some, None}
 use Rattle.std.proofs.Math.Option as maybe
 use Rattle.model.specs.declared.Presence.TheVariants.{Absent, Present}
 use Rattle.model.specs.declared.Presence.{Presence}
@@ -51,5 +51,5 @@ is_hit owner action s = hit_in owner action s.presence s.replay
 
 -- what a search answers: the receipt number of the entry found
 abbrev pub receipt_of : maybe.Option Replay → Option ℕ
-receipt_of none = None
-receipt_of (some e) = Some e.receipt
+receipt_of None = None
+receipt_of (Some e) = Some e.receipt

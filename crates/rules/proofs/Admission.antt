@@ -4,7 +4,8 @@ use Prim.Native.Nat.{ℕ, ◌^◌, ◌≤◌, ◌<◌}
 use mathlib.Core.Bool.{Bool, true, false, cond, not, ◌&&◌, false≢true}
 use mathlib.Core.List.{List, [], ◌∷◌}
 use mathlib.Core.Logic.{inl, inr, ◌≢◌, ◌↔◌}
-use mathlib.Core.Option.{Option, some, none, some-ne-none}
+use Rattle.std.specs.Prelude.{Option, Some, None}
+use Rattle.model.proofs.Options.{some-ne-none}
 use mathlib.Core.Path.{◌≡◌, refl, sym, ap, ◌∙◌}
 use borrow.Author.Tests.{ltb-true, leb-true, leb-false, ltb-false, eqb-true, eqb-false, lt-ltb, le-leb, lt-leb, le-ltb, eq-eqb, ne_eqb, not-true}
 use lib.Bits.{bit_and}
@@ -34,42 +35,42 @@ abbrev pub AllHold : List Check → Type 0
 AllHold [] = Unit
 AllHold (c ∷ cs) = (c.holds ≡ true) × AllHold cs
 
-pub none-fails : (cs : List Check) → first_failing cs ≡ none → AllHold cs
+pub none-fails : (cs : List Check) → first_failing cs ≡ None → AllHold cs
 unfolding first_failing
 none-fails [] e = tt
 none-fails (c ∷ cs) e = go c.holds refl e (none-fails cs)
   where
-    go : (t : Bool) → c.holds ≡ t → cond t (first_failing cs) (some c.reason) ≡ none
-        → (first_failing cs ≡ none → AllHold cs) → (c.holds ≡ true) × AllHold cs
+    go : (t : Bool) → c.holds ≡ t → cond t (first_failing cs) (Some c.reason) ≡ None
+        → (first_failing cs ≡ None → AllHold cs) → (c.holds ≡ true) × AllHold cs
     go true h f rest = (h, rest f)
     go false h f rest = absurd (some-ne-none _ f)
 
-pub fails-none : (cs : List Check) → AllHold cs → first_failing cs ≡ none
+pub fails-none : (cs : List Check) → AllHold cs → first_failing cs ≡ None
 unfolding first_failing
 fails-none [] h = refl
 fails-none (c ∷ cs) h = rw h.0 (fails-none cs h.1)
 
 -- ---- the tests and what they mean
 
-some_of : {A : Type 0} (o : Option A) → is_some o ≡ true → (a : A) × (o ≡ some a)
+some_of : {A : Type 0} (o : Option A) → is_some o ≡ true → (a : A) × (o ≡ Some a)
 unfolding is_some
-some_of none e = absurd (false≢true e)
-some_of (some a) e = (a, refl)
+some_of None e = absurd (false≢true e)
+some_of (Some a) e = (a, refl)
 
-is-some : {A : Type 0} {o : Option A} {a : A} → o ≡ some a → is_some o ≡ true
+is-some : {A : Type 0} {o : Option A} {a : A} → o ≡ Some a → is_some o ≡ true
 unfolding is_some
 is-some e = rw e
 
-held_of : {A : Type 0} (o : Option A) (test : A → Bool) → holds_of o test ≡ true → (a : A) × (o ≡ some a)
+held_of : {A : Type 0} (o : Option A) (test : A → Bool) → holds_of o test ≡ true → (a : A) × (o ≡ Some a)
 unfolding holds_of
-held_of none test e = absurd (false≢true e)
-held_of (some a) test e = (a, refl)
+held_of None test e = absurd (false≢true e)
+held_of (Some a) test e = (a, refl)
 
-pub held-at : {A : Type 0} {o : Option A} {a : A} (test : A → Bool) → o ≡ some a → holds_of o test ≡ true → test a ≡ true
+pub held-at : {A : Type 0} {o : Option A} {a : A} (test : A → Bool) → o ≡ Some a → holds_of o test ≡ true → test a ≡ true
 unfolding holds_of
 held-at test e h = rw e at h
 
-at_held : {A : Type 0} {o : Option A} {a : A} (test : A → Bool) → o ≡ some a → test a ≡ true → holds_of o test ≡ true
+at_held : {A : Type 0} {o : Option A} {a : A} (test : A → Bool) → o ≡ Some a → test a ≡ true → holds_of o test ≡ true
 unfolding holds_of
 at_held test e h = rw e h
 
@@ -130,7 +131,7 @@ inside-contained (b ∷ bs) (p ∷ ps) h =
 abbrev Unused : ℕ → ℕ → List Replay → Type 0
 Unused owner action es = (e : Replay) → Mem e es → e.owner ≡ owner → e.action_id ≢ action
 
-missed : (x : Replay) (t : Bool) (o : Option Replay) → is_some (cond t (some x) o) ≡ false → (t ≡ false) × (is_some o ≡ false)
+missed : (x : Replay) (t : Bool) (o : Option Replay) → is_some (cond t (Some x) o) ≡ false → (t ≡ false) × (is_some o ≡ false)
 unfolding is_some
 missed x true o h = absurd (false≢true (sym h))
 missed x false o h = (refl, h)
@@ -156,7 +157,7 @@ unused owner action (x ∷ es) h e (inr m) p q = unused owner action es (missed 
 
 not_entry : (owner action : ℕ) (x : Replay) (es : List Replay) (t : Bool) → is_entry owner action x ≡ t
     → Unused owner action (x ∷ es) → is_some (find_entry owner action es) ≡ false
-    → is_some (cond t (some x) (find_entry owner action es)) ≡ false
+    → is_some (cond t (Some x) (find_entry owner action es)) ≡ false
 not_entry owner action x es false h u f = f
 not_entry owner action x es true h u f = let k = entry-is owner action x h in absurd (u x (inl refl) k.0 k.1)
 
@@ -168,7 +169,7 @@ used-none owner action (x ∷ es) u =
 
 -- ---- the 17 checks
 
-pub lease-on : (s : Submission) (b : Book) (c : Capability) → order_capability s b ≡ some c → order_lease s b ≡ lease_at b c.resource
+pub lease-on : (s : Submission) (b : Book) (c : Capability) → order_capability s b ≡ Some c → order_lease s b ≡ lease_at b c.resource
 unfolding order_lease lease_for
 lease-on s b c e = rw e
 
@@ -308,6 +309,6 @@ admissible-holds s b a =
     )
 
 -- the first failing check of submit is none exactly when each of the 17 conditions holds
-pub admitted-exactly : (s : Submission) (b : Book) → (first_failing (admission s b) ≡ none) ↔ Admissible s b
+pub admitted-exactly : (s : Submission) (b : Book) → (first_failing (admission s b) ≡ None) ↔ Admissible s b
 admitted-exactly s b =
     (λ e. holds-admissible s b (none-fails (admission s b) e), λ a. fails-none (admission s b) (admissible-holds s b a))

@@ -4,7 +4,9 @@ use Prim.Native.Nat.{ℕ, zero, suc, ◌<◌}
 use mathlib.Core.Bool.{true, false≢true}
 use mathlib.Core.List.{List, [], ◌∷◌, ◌++◌}
 use mathlib.Core.Logic.{inl, inr, ⊎_elim}
-use mathlib.Core.Option.{Option, some, none, none-ne-some, some-injective}
+use Rattle.std.specs.Prelude.{Option, Some, None}
+use Rattle.std.proofs.lemmas.Option.{none-some}
+use Rattle.model.proofs.Options.{some-injective}
 use mathlib.Core.Path.{◌≡◌, refl, sym, ap, ◌∙◌, subst}
 use native.Mathlib.Omega.{arith}
 use lib.ListN.{length, length-set, get_or}
@@ -42,7 +44,7 @@ use Rattle.rules.proofs.Suits.{submission, Settled, told, suits}
 
 -- ---- the kind, and an order
 
-module _ (s : Start) (h : History) (x : Exchange) (a : Answer) (out : output_after s h ≡ Answers a) (e : current (log_of s h) ≡ some x) where
+module _ (s : Start) (h : History) (x : Exchange) (a : Answer) (out : output_after s h ≡ Answers a) (e : current (log_of s h) ≡ Some x) where
   at-answer : (b : Book) × EndedAt b x a (phase_after s h)
   at-answer = let b = begun s h x e in (b.0, ended s h x b.0 e b.1 a out)
 
@@ -50,7 +52,7 @@ module _ (s : Start) (h : History) (x : Exchange) (a : Answer) (out : output_aft
   kind-answered = suits x.call at-answer.0 at-answer.1.run
 
 pub order-answered : (s : Start) (h : History) (x : Exchange) (r : Receipt) → output_after s h ≡ Answers (Submitted r)
-    → current (log_of s h) ≡ some x → OrderAnswered x r
+    → current (log_of s h) ≡ Some x → OrderAnswered x r
 unfolding at-answer
 order-answered s h x r out e =
     let order = submission (kind-answered s h x (Submitted r) out e) in
@@ -70,8 +72,8 @@ order-answered s h x r out e =
 -- ---- the answer of a grant or a renewal
 
 -- an axis on which a lease stands is within the list
-within : (ls : List (Option Lease)) (axis : ℕ) (l : Lease) → get_or ls axis none ≡ some l → axis < length ls
-within [] axis l e = absurd (none-ne-some l e)
+within : (ls : List (Option Lease)) (axis : ℕ) (l : Lease) → get_or ls axis None ≡ Some l → axis < length ls
+within [] axis l e = absurd (none-some l e)
 within (o ∷ ls) zero l e = omega arith
 within (o ∷ ls) (suc axis) l e = let k = within ls axis l e in omega arith
 
@@ -125,11 +127,11 @@ record Given (c : Call) (now : ℕ) (b : Book) (l : Lease) (after : Book) (is : 
   control : receipt.decision ≡ Decision.Control
   lease : receipt.lease_id ≡ l.id
   owner : receipt.principal ≡ l.owner
-  stands : lease_at after receipt.resource ≡ some l
+  stands : lease_at after receipt.resource ≡ Some l
   rest : LeaseLeft receipt l b after
 
 given : {c : Call} {now : ℕ} {b : Book} {is : List Item} {axis : ℕ} {l : Lease} {reason : Reason} {b' after : Book}
-    (k : Gave axis l reason b' after is) → Asked c now b k.receipt l → lease_at b' axis ≡ some l → LeaseLeft k.receipt l b after
+    (k : Gave axis l reason b' after is) → Asked c now b k.receipt l → lease_at b' axis ≡ Some l → LeaseLeft k.receipt l b after
     → Given c now b l after is
 given k asked stands rest =
     record {
@@ -150,17 +152,17 @@ module _ (after : Book) (eight : length after.leases ≡ 8) (low : (axis : ℕ) 
       → first_failing (acquire_checks q now b) ≡ f → Runs (grant f q now b) rs is (Done after (Leased l))
       → Given (Acquire q now) now b l after is
   unfolding grant acquire_checks ready valid_request new_lease granted refresh_state with_state bump_epoch with_epoch with_leases with_next_lease
-  given-grant (some reason) q now b e w = absurd (false≢true (let a = (at-end w).answer in cc))
-  given-grant {is = is} none q now b e w =
+  given-grant (Some reason) q now b e w = absurd (false≢true (let a = (at-end w).answer in cc))
+  given-grant {is = is} None q now b e w =
       let l = new_lease q b.next_lease now in
       let g = gave q.resource l Reason.LeaseGranted now (granted l b) w in
       let k = g.1 in
       let used = (and_both (axis_used b.capabilities q.resource) _ (none-fails (acquire_checks q now b) e).1.1.1.1.0).0 in
       let inside = low q.resource (rw k.capabilities used) in
-      let length-same = sym (length-set b.leases q.resource (some l)) ∙ ap length (sym k.leases) ∙ eight in
+      let length-same = sym (length-set b.leases q.resource (Some l)) ∙ ap length (sym k.leases) ∙ eight in
       subst (λ l. Given (Acquire q now) now b l after is) g.0
       (given k (asked-grant (grantable q now b e) k.why k.on refl refl refl refl refl refl refl refl)
-      (get_or-set_same b.leases q.resource (some l) none (rw length-same inside))
+      (get_or-set_same b.leases q.resource (Some l) None (rw length-same inside))
       (record {
         leases = rw k.on k.leases;
         active = k.active;
@@ -173,19 +175,19 @@ module _ (after : Book) (eight : length after.leases ≡ 8) (low : (axis : ℕ) 
 -- ---- renew
 
 given-extension : {rs : List Reply} {is : List Item} {l : Lease} {after : Book} (axis : Option ℕ) (x : Option Lease) (q : Renewal) (b : Book)
-    → first_failing (renew_checks q b) ≡ none → held_axis q.owner q.lease_id b ≡ axis → lease_on axis b ≡ x
+    → first_failing (renew_checks q b) ≡ None → held_axis q.owner q.lease_id b ≡ axis → lease_on axis b ≡ x
     → Runs (extend q axis x b) rs is (Done after (Leased l)) → Given (Renew q) q.now b l after is
 unfolding extend extended held_axis lease_on with_leases
-given-extension none x q b checks e f w = absurd (false≢true (let a = (at-end w).answer in cc))
-given-extension (some axis) none q b checks e f w = absurd (false≢true (let a = (at-end w).answer in cc))
-given-extension {is = is} {after = after} (some axis) (some x) q b checks e f w =
+given-extension None x q b checks e f w = absurd (false≢true (let a = (at-end w).answer in cc))
+given-extension (Some axis) None q b checks e f w = absurd (false≢true (let a = (at-end w).answer in cc))
+given-extension {is = is} {after = after} (Some axis) (Some x) q b checks e f w =
     let g = gave axis (extended q x) Reason.LeaseRenewed q.now _ w in
     let k = g.1 in
     let h = held q.owner q.lease_id b axes axis e in
     let same : h.lease ≡ x = some-injective _ _ (sym h.stands ∙ f) in
     let asked = asked-renewal {q = q} {b = b} {r = k.receipt} {old = x} (rw k.on (renewable q b axis x checks e f)) k.why (rw same at h.number) (rw same at h.own) refl refl refl refl refl refl refl in
     subst (λ l. Given (Renew q) q.now b l after is) g.0
-    (given k asked (get_or-set_same b.leases axis (some (extended q x)) none (within b.leases axis x f))
+    (given k asked (get_or-set_same b.leases axis (Some (extended q x)) None (within b.leases axis x f))
     (record {
       leases = rw k.on k.leases;
       active = k.active;
@@ -198,8 +200,8 @@ given-extension {is = is} {after = after} (some axis) (some x) q b checks e f w 
 given-renewal : {rs : List Reply} {is : List Item} {l : Lease} {after : Book} (f : Option Reason) (q : Renewal) (b : Book)
     → first_failing (renew_checks q b) ≡ f → Runs (renewed f q b) rs is (Done after (Leased l)) → Given (Renew q) q.now b l after is
 unfolding renewed held_lease
-given-renewal (some reason) q b checks w = absurd (false≢true (let a = (at-end w).answer in cc))
-given-renewal none q b checks w = given-extension (held_axis q.owner q.lease_id b) _ q b checks refl refl w
+given-renewal (Some reason) q b checks w = absurd (false≢true (let a = (at-end w).answer in cc))
+given-renewal None q b checks w = given-extension (held_axis q.owner q.lease_id b) _ q b checks refl refl w
 
 -- ---- after every history
 
@@ -239,7 +241,7 @@ module _ (s : Start) (h : History) (x : Exchange) (before : Book) (l : Lease) (a
   answered c e (renews {q = q}) w = after-tick _ q.now _ e w (λ o. given-renewal _ q o.book refl o.left)
 
 pub lease-answered : (s : Start) (h : History) (x : Exchange) (b : Book) (l : Lease) → output_after s h ≡ Answers (Leased l)
-    → current (log_of s h) ≡ some x → book_before s h ≡ some b → LeaseAnswered s h x b l
+    → current (log_of s h) ≡ Some x → book_before s h ≡ Some b → LeaseAnswered s h x b l
 lease-answered s h x b l out e f =
     let at = ended s h x b e f (Leased l) out in
     answered s h x b l at x.call refl (suits x.call b at.run) at.run
@@ -253,7 +255,7 @@ leased-answer axis l reason now b w = sym (at-end (noted w).left).answer
 
 past-grant : {rs first : List Reply} {first_items is : List Item} {book after : Book} {a : Answer} (second : List Reply) (c : Call) (q : LeaseRequest) (now : ℕ)
     (before : Book) → c ≡ Acquire q now → rs ≡ first ++ second
-    → Runs (tick now before (λ b. Done b Returned)) first first_items (Done book Returned) → first_failing (acquire_checks q now book) ≡ none
+    → Runs (tick now before (λ b. Done b Returned)) first first_items (Done book Returned) → first_failing (acquire_checks q now book) ≡ None
     → Runs (begin c before) rs is (Done after a) → (l : Lease) × (a ≡ Leased l)
 unfolding begin acquire grant
 past-grant {book = book} second c q now before e same ticked checks w =
@@ -264,7 +266,7 @@ past-grant {book = book} second c q now before e same ticked checks w =
     )
 
 pub lease-granted : (s : Start) (h : History) (x : Exchange) (b : Book) (a : Answer) → output_after s h ≡ Answers a
-    → current (log_of s h) ≡ some x → book_before s h ≡ some b → (q : LeaseRequest) (now : ℕ) → x.call ≡ Acquire q now
+    → current (log_of s h) ≡ Some x → book_before s h ≡ Some b → (q : LeaseRequest) (now : ℕ) → x.call ≡ Acquire q now
     → (book : Book) → Ticked now b x book → Grantable q now book → (l : Lease) × (a ≡ Leased l)
 lease-granted s h x b a out e f q now call book t g =
     let at = ended s h x b e f a out in

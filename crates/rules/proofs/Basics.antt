@@ -2,7 +2,8 @@
 use mathlib.Core.Bool.{Bool, true, false, cond, ◌||◌, true≢false, or_assoc}
 use mathlib.Core.List.{List, [], ◌∷◌, ◌++◌}
 use mathlib.Core.Logic.{◌⊎◌, inl, inr, ⊎_elim}
-use mathlib.Core.Option.{Option, some, none, some-ne-none}
+use Rattle.std.specs.Prelude.{Option, Some, None}
+use Rattle.model.proofs.Options.{some-ne-none}
 use mathlib.Core.Path.{◌≡◌, refl, sym, ap, ◌∙◌}
 use Rattle.model.specs.Lists.{any}
 use Rattle.rules.specs.Lists.{Mem}
@@ -13,7 +14,7 @@ neither true b e = absurd (true≢false e)
 neither false b e = (refl, e)
 
 -- a chain of tests ends in none where the first test fails and the rest ends in none
-pub cond-none : {A : Type 0} (t : Bool) (a : A) (o : Option A) → cond t (some a) o ≡ none → (t ≡ false) × (o ≡ none)
+pub cond-none : {A : Type 0} (t : Bool) (a : A) (o : Option A) → cond t (Some a) o ≡ None → (t ≡ false) × (o ≡ None)
 cond-none true a o e = absurd (some-ne-none a e)
 cond-none false a o e = (refl, e)
 

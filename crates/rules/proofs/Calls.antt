@@ -3,7 +3,9 @@ use Prim.Native.Nat.{ℕ, zero, suc, ◌<◌, ◌^◌}
 use mathlib.Core.Bool.{Bool, true, false, cond, not, ◌&&◌, ◌||◌, false≢true}
 use mathlib.Core.List.{List, [], ◌∷◌, map, reverse}
 use mathlib.Core.Logic.{inl, inr, ◌≢◌}
-use mathlib.Core.Option.{Option, some, none, none-ne-some, some-injective}
+use Rattle.std.specs.Prelude.{Option, Some, None}
+use Rattle.std.proofs.lemmas.Option.{none-some}
+use Rattle.model.proofs.Options.{some-injective}
 use mathlib.Core.Path.{◌≡◌, refl, sym, ap, ◌∙◌, subst}
 use borrow.Author.Tests.{eqb-true, eq-eqb}
 use native.Mathlib.Omega.{arith}
@@ -95,8 +97,8 @@ module _ (s : Start) where
 
   inv-canceled : (c : Call) (axis : Option ℕ) (now : ℕ) (l : Log) (b : Book) → InHand s c l b → Safe (I s) (End s) l (canceled axis now b)
   unfolding canceled
-  inv-canceled c none now l b h = inv-ends s c (Refused Reason.Authority) l b tt h
-  inv-canceled c (some axis) now l b h = keeps-fallback (End s) (in-hand s c) axis Reason.Canceled now l b _ tt h after
+  inv-canceled c None now l b h = inv-ends s c (Refused Reason.Authority) l b tt h
+  inv-canceled c (Some axis) now l b h = keeps-fallback (End s) (in-hand s c) axis Reason.Canceled now l b _ tt h after
     where
       after : (ok : Bool) (l' : Log) (b' : Book) → InHand s c l' b'
           → Safe (I s) (End s) l' (cond ok (Done (refresh_state b') Succeeded) (trip Reason.Driver now b' (λ b''. Done b'' (Refused Reason.Driver))))
@@ -113,10 +115,10 @@ module _ (s : Start) where
   ready-state State.Faulted p q = q
   ready-state State.Estopped p q = p
 
-  free-none : (o : Option Lease) → is_free o ≡ true → o ≡ none
+  free-none : (o : Option Lease) → is_free o ≡ true → o ≡ None
   unfolding is_free
-  free-none none e = refl
-  free-none (some x) e = absurd (false≢true e)
+  free-none None e = refl
+  free-none (Some x) e = absurd (false≢true e)
 
   granting : (r : LeaseRequest) (n now : ℕ) (b : Book) → Granting
       (numbered b.next_receipt (event r.resource (new_lease r n now).id (new_lease r n now).owner Decision.Control Reason.LeaseGranted now b)) r n b.next_receipt
@@ -127,9 +129,9 @@ module _ (s : Start) where
   record Grantable (r : LeaseRequest) (b : Book) : Type 0 where
     ready : is_ready b.state ≡ true
     used : axis_used b.capabilities r.resource ≡ true
-    free : lease_at b r.resource ≡ none
+    free : lease_at b r.resource ≡ None
 
-  grantable : (r : LeaseRequest) (now : ℕ) (b : Book) → first_failing (acquire_checks r now b) ≡ none → Grantable r b
+  grantable : (r : LeaseRequest) (now : ℕ) (b : Book) → first_failing (acquire_checks r now b) ≡ None → Grantable r b
   unfolding acquire_checks ready valid_request
   grantable r now b e =
       let h = none-fails (acquire_checks r now b) e in
@@ -143,8 +145,8 @@ module _ (s : Start) where
   inv-grant : (r : LeaseRequest) (now : ℕ) (l : Log) (b : Book) → InHand s (Acquire r now) l b → Guarded (Settled now (reverse axes)) b
       → (o : Option Reason) → first_failing (acquire_checks r now b) ≡ o → Safe (I s) (End s) l (grant o r now b)
   unfolding call_of updated grant leased record_receipt granted refresh_state with_state bump_epoch with_epoch with_leases with_next_lease
-  inv-grant r now l b h settled (some reason) e = inv-ends s (Acquire r now) (Refused reason) l b tt h
-  inv-grant r now l b h settled none e =
+  inv-grant r now l b h settled (Some reason) e = inv-ends s (Acquire r now) (Refused reason) l b tt h
+  inv-grant r now l b h settled None e =
       let g = grantable r now b e in
       let b₁ = granted (new_lease r b.next_lease now) b in
       let low = used_low s h.0.0.sound r.resource (subst (λ cs. axis_used cs r.resource ≡ true) h.0.0.capabilities g.used) in
@@ -162,18 +164,18 @@ module _ (s : Start) where
 
   inv-extend : (r : Renewal) (axis : Option ℕ) (x : Option Lease) (l : Log) (b : Book) → lease_on axis b ≡ x → InHand s (Renew r) l b → Safe (I s) (End s) l (extend r axis x b)
   unfolding call_of updated extend leased record_receipt lease_on with_leases
-  inv-extend r none x l b e h = inv-ends s (Renew r) (Refused Reason.Authority) l b tt h
-  inv-extend r (some axis) none l b e h = inv-ends s (Renew r) (Refused Reason.Authority) l b tt h
-  inv-extend r (some axis) (some x) l b e h =
-      let b₁ = with_leases (set b.leases axis (some (extended r x))) b in
+  inv-extend r None x l b e h = inv-ends s (Renew r) (Refused Reason.Authority) l b tt h
+  inv-extend r (Some axis) None l b e h = inv-ends s (Renew r) (Refused Reason.Authority) l b tt h
+  inv-extend r (Some axis) (Some x) l b e h =
+      let b₁ = with_leases (set b.leases axis (Some (extended r x))) b in
       let r₁ = numbered b₁.next_receipt (event axis (extended r x).id (extended r x).owner Decision.Control Reason.LeaseRenewed r.now b₁) in
       let h₁ = inv-renewed s r₁ axis r x l b (renewing axis (extended r x) r.now b₁) e h.1.0 h.0 in
       (h₁, inv-ends s (Renew r) (LeasedTo (extended r x)) _ (kept r₁ b₁) tt (inv-replied s _ (kept r₁ b₁) h₁ Recorded, (h.1.0, refl)))
 
   inv-renewal : (r : Renewal) (o : Option Reason) (l : Log) (b : Book) → InHand s (Renew r) l b → Safe (I s) (End s) l (renewed o r b)
   unfolding renewed held_lease
-  inv-renewal r (some reason) l b h = inv-ends s (Renew r) (Refused reason) l b tt h
-  inv-renewal r none l b h = inv-extend r (held_axis r.owner r.lease_id b) _ l b refl h
+  inv-renewal r (Some reason) l b h = inv-ends s (Renew r) (Refused reason) l b tt h
+  inv-renewal r None l b h = inv-extend r (held_axis r.owner r.lease_id b) _ l b refl h
 
   -- ---- submit
 
@@ -207,7 +209,7 @@ module _ (s : Start) where
     unfolding fail order_receipt is_control
     inv-fail c reason p l b h =
         keeps-record (End s) (doing s (Submit o) p.dispatched) _ l b _ refl h
-        (inv-trips reason p.dispatched _ (told Decision.Failed (some c) reason 0 p _ b (λ e. absurd (failed≢executed e))))
+        (inv-trips reason p.dispatched _ (told Decision.Failed (Some c) reason 0 p _ b (λ e. absurd (failed≢executed e))))
 
     inv-storm : (r : Receipt) → Reported false r → (l : Log) (b : Book) → Order false l b → Safe (I s) (End s) l (storm o.now r b)
     unfolding storm
@@ -228,13 +230,13 @@ module _ (s : Start) where
     unfolding complete order_receipt is_control with_active with_invalid_count
     inv-complete c x p l b sent h =
         keeps-record (End s) (doing s (Submit o) p.dispatched) _ l _ _ refl h
-        (inv-answers p.dispatched _ (told Decision.Executed (some c) Reason.Ok 0 p _ b (λ e. sent)))
+        (inv-answers p.dispatched _ (told Decision.Executed (Some c) Reason.Ok 0 p _ b (λ e. sent)))
 
     inv-verify : (c : Capability) (x : ℕ) (before : ℕ) (l : Log) (b : Book) (seen : Option Observation) → Order true l b
         → Safe (I s) (End s) l (verify c x before o b seen)
     unfolding verify
-    inv-verify c x before l b none h = inv-fail c Reason.Driver _ l b h
-    inv-verify c x before l b (some seen) h = go (verified c.verification o.action.parameters seen)
+    inv-verify c x before l b None h = inv-fail c Reason.Driver _ l b h
+    inv-verify c x before l b (Some seen) h = go (verified c.verification o.action.parameters seen)
       where
         p : Progress
         p = record { dispatched = true; pre_state = before; executed_at = o.now; observed_valid = true; observed = seen.parameters; post_state = seen.state }
@@ -244,17 +246,17 @@ module _ (s : Start) where
         go false = inv-fail c Reason.Verification p l b h
 
   -- the capability that an order names is a record of the list, with the order's id
-  named : (id : ℕ) (cs : List Capability) (c : Capability) → with_id id cs ≡ some c → (c.id ≡ id) × (axis_used cs c.resource ≡ true)
+  named : (id : ℕ) (cs : List Capability) (c : Capability) → with_id id cs ≡ Some c → (c.id ≡ id) × (axis_used cs c.resource ≡ true)
   unfolding with_id
-  named id [] c e = absurd (none-ne-some c e)
+  named id [] c e = absurd (none-some c e)
   named id (x ∷ cs) c e = go (eqb x.id id) refl e (named id cs c)
     where
       or_right : (a b : Bool) → b ≡ true → (a || b) ≡ true
       or_right true b e = refl
       or_right false b e = e
 
-      go : (t : Bool) → eqb x.id id ≡ t → cond t (some x) (with_id id cs) ≡ some c
-          → (with_id id cs ≡ some c → (c.id ≡ id) × (axis_used cs c.resource ≡ true))
+      go : (t : Bool) → eqb x.id id ≡ t → cond t (Some x) (with_id id cs) ≡ Some c
+          → (with_id id cs ≡ Some c → (c.id ≡ id) × (axis_used cs c.resource ≡ true))
           → (c.id ≡ id) × ((eqb x.resource c.resource || axis_used cs c.resource) ≡ true)
       go true h e rest =
           let same : x ≡ c = some-injective x c e in (
@@ -266,7 +268,7 @@ module _ (s : Start) where
   -- what an admission gives
   record Admitting (o : Submission) (c : Capability) (x : Lease) (b : Book) : Type 0 where
     ready : is_ready b.state ≡ true
-    known : with_id o.action.capability b.capabilities ≡ some c
+    known : with_id o.action.capability b.capabilities ≡ Some c
     passed : Passed o c x b
     owner : x.owner ≡ o.principal
     bit : bit_and x.capabilities (2 ^ o.action.capability) ≢ 0
@@ -278,13 +280,13 @@ module _ (s : Start) where
   not-both State.Faulted p q = absurd (q refl)
   not-both State.Estopped p q = absurd (p refl)
 
-  admitting-of : (o : Submission) (c : Capability) (x : Lease) (l : Log) (b : Book) → I s l b → first_failing (admission o b) ≡ none
-      → order_capability o b ≡ some c → order_lease o b ≡ some x → Admitting o c x b
+  admitting-of : (o : Submission) (c : Capability) (x : Lease) (l : Log) (b : Book) → I s l b → first_failing (admission o b) ≡ None
+      → order_capability o b ≡ Some c → order_lease o b ≡ Some x → Admitting o c x b
   unfolding order_capability
   admitting-of o c x l b h e known found =
       let a = (admitted-exactly o b).0 e in
       let same-c : a.capability ≡ c = some-injective _ _ (sym (with-named a.known) ∙ known) in
-      let leased : lease_at b c.resource ≡ some x = sym (lease-on o b c known) ∙ found in
+      let leased : lease_at b c.resource ≡ Some x = sym (lease-on o b c known) ∙ found in
       let same-x : a.lease ≡ x =
       some-injective _ _ (sym a.leased ∙ ap (λ (d : Capability). lease_at b d.resource) same-c ∙ leased) in
       let low = used_low s h.0.sound c.resource (subst (λ cs. axis_used cs c.resource ≡ true) h.0.capabilities (named _ _ c known).1) in
@@ -304,7 +306,7 @@ module _ (s : Start) where
         bit = subst (λ (y : Lease). bit_and y.capabilities (2 ^ o.action.capability) ≢ 0) same-x a.authority.1.1;
       }
 
-  unexpired-at : (now : ℕ) (y : Option Lease) (x : Lease) → y ≡ some x → Unexpired now y → now < x.expires_at
+  unexpired-at : (now : ℕ) (y : Option Lease) (x : Lease) → y ≡ Some x → Unexpired now y → now < x.expires_at
   unfolding Unexpired
   unexpired-at now y x e h = rw e at h
 
@@ -314,7 +316,7 @@ module _ (s : Start) where
   leased-by o c x l b a h settled l' same =
       record {
         capability = c;
-        known = named-with _ s.capabilities c (subst (λ cs. with_id o.action.capability cs ≡ some c) h.0.0.0.capabilities a.known);
+        known = named-with _ s.capabilities c (subst (λ cs. with_id o.action.capability cs ≡ Some c) h.0.0.0.capabilities a.known);
         tenancy = tenancy_in x;
         stands = same ∙ h.0.0.0.leasing.stands c.resource ∙ ap held a.passed.leased;
         lease = a.passed.lease;
@@ -339,7 +341,7 @@ module _ (s : Start) where
   mem-entry (suc n) y (z ∷ A) (inl e) = inl (ap entry_of e)
   mem-entry (suc n) y (z ∷ A) (inr m) = inr (mem-entry n y A m)
 
-  last_of : (A : List Admitted) (y : Option Lease) (x : Lease) → y ≡ some x → LastIs A y → x.last_sequence ≡ highest x.id A
+  last_of : (A : List Admitted) (y : Option Lease) (x : Lease) → y ≡ Some x → LastIs A y → x.last_sequence ≡ highest x.id A
   last_of A y x e h = rw e at h
 
   observing-first : (o : Submission) (c : Capability) (x : Lease) (l : Log) (b : Book) → Admitting o c x b → InCall s (Submit o) l b
@@ -349,7 +351,7 @@ module _ (s : Start) where
         submission = o;
         call = h.0.1.0;
         capability = c;
-        known = named-with _ s.capabilities c (subst (λ cs. with_id o.action.capability cs ≡ some c) h.0.0.0.capabilities a.known);
+        known = named-with _ s.capabilities c (subst (λ cs. with_id o.action.capability cs ≡ Some c) h.0.0.0.capabilities a.known);
         own = refl;
         first = λ e.
             record {
@@ -363,7 +365,7 @@ module _ (s : Start) where
       }
 
   inv-executing : (o : Submission) (c : Capability) (x : ℕ) (before : ℕ) (p : Progress) (l : Log) (b : Book) → p.dispatched ≡ true → Order o true l b → observing l ≡ true
-      → with_id o.action.capability s.capabilities ≡ some c → (ok : Bool)
+      → with_id o.action.capability s.capabilities ≡ Some c → (ok : Bool)
       → Safe (I s) (End s) (Replied (Executed ok) ∷ l) (cond ok (Observe c.resource b (verify c x before o b)) (fail c Reason.Driver p o b))
   unfolding call_of observing dispatching updated
   inv-executing o c x before p l b sent h seen known false =
@@ -379,12 +381,12 @@ module _ (s : Start) where
       → Guarded (Settled o.now (reverse axes)) b → (seen : Option Observation) → I s (Handed (ItemObserve c.resource) ∷ l) (consumed c x o b)
       → Safe (I s) (End s) (Replied (Observed seen) ∷ (Handed (ItemObserve c.resource) ∷ l)) (dispatch c (stream_end x o) o (consumed c x o b) seen)
   unfolding dispatch call_of updated observing dispatching executed reaching admissions admitting submission_in live holding
-  inv-dispatch o c x l b a h settled none h₁ =
-      inv-fail o c _ not_sent _ (consumed c x o b) ((inv-replied s _ (consumed c x o b) h₁ (Observed none), (h.0.1.0, refl)), h.1.0)
-  inv-dispatch o c x l b a h settled (some seen) h₁ =
+  inv-dispatch o c x l b a h settled None h₁ =
+      inv-fail o c _ not_sent _ (consumed c x o b) ((inv-replied s _ (consumed c x o b) h₁ (Observed None), (h.0.1.0, refl)), h.1.0)
+  inv-dispatch o c x l b a h settled (Some seen) h₁ =
       let b₁ = consumed c x o b in
-      let l₂ : Log = Replied (Observed (some seen)) ∷ (Handed (ItemObserve c.resource) ∷ l) in
-      let h₂ = inv-replied s _ b₁ h₁ (Observed (some seen)) in
+      let l₂ : Log = Replied (Observed (Some seen)) ∷ (Handed (ItemObserve c.resource) ∷ l) in
+      let h₂ = inv-replied s _ b₁ h₁ (Observed (Some seen)) in
       let l₃ : Log = Handed (ItemExecute c.id o.action.parameters) ∷ l₂ in
       let admits : (y : Admitted) × Mem y (admissions l₂) × (y.submission ≡ o) = rw (h.1.1, h.0.1.0) (admitted_as (next_number l) o, inl refl, refl) in
       let h₃ =
@@ -392,17 +394,17 @@ module _ (s : Start) where
       (proper o c x l b a h settled l₃ refl refl) h₂ in (
         h₃,
         inv-executing o c (stream_end x o) seen.state _ l₃ b₁ refl ((h₃, (h.0.1.0, refl)), refl) refl
-            (subst (λ cs. with_id o.action.capability cs ≡ some c) h.0.0.0.capabilities a.known),
+            (subst (λ cs. with_id o.action.capability cs ≡ Some c) h.0.0.0.capabilities a.known),
       )
 
   inv-verdict : (o : Submission) (r : Option Reason) (c : Option Capability) (x : Option Lease) (l : Log) (b : Book)
       → first_failing (admission o b) ≡ r → order_capability o b ≡ c → order_lease o b ≡ x → InCall s (Submit o) l b
       → Guarded (Settled o.now (reverse axes)) b → Safe (I s) (End s) l (admit (verdict r c x) o b)
   unfolding admit verdict
-  inv-verdict o (some reason) c x l b e known found h settled = inv-reject o reason l b (h.0, h.1.0)
-  inv-verdict o none none x l b e known found h settled = inv-reject o Reason.UnknownCapability l b (h.0, h.1.0)
-  inv-verdict o none (some c) none l b e known found h settled = inv-reject o Reason.Authority l b (h.0, h.1.0)
-  inv-verdict o none (some c) (some x) l b e known found h settled =
+  inv-verdict o (Some reason) c x l b e known found h settled = inv-reject o reason l b (h.0, h.1.0)
+  inv-verdict o None None x l b e known found h settled = inv-reject o Reason.UnknownCapability l b (h.0, h.1.0)
+  inv-verdict o None (Some c) None l b e known found h settled = inv-reject o Reason.Authority l b (h.0, h.1.0)
+  inv-verdict o None (Some c) (Some x) l b e known found h settled =
       let a = admitting-of o c x l b h.0.0 e known found in
       let h₁ = inv-admitted s o c x l b a.passed h.0.1.0 h.1.1 (observing-first o c x l b a h settled) h.0.0 in
       (h₁, λ seen. inv-dispatch o c x l b a h settled seen h₁)

@@ -4,7 +4,9 @@ use Prim.Native.Nat.{ℕ, ◌<◌}
 use mathlib.Core.Bool.{Bool, true, false, cond}
 use mathlib.Core.List.{List, [], ◌∷◌, ◌++◌}
 use mathlib.Core.Logic.{◌⊎◌, inl, inr, ◌≢◌}
-use mathlib.Core.Option.{Option, some, none, none-ne-some, some-ne-none, some-injective}
+use Rattle.std.specs.Prelude.{Option, Some, None}
+use Rattle.std.proofs.lemmas.Option.{none-some}
+use Rattle.model.proofs.Options.{some-ne-none, some-injective}
 use mathlib.Core.Path.{◌≡◌, refl, sym, ap, ◌∙◌, subst}
 use borrow.Author.Tests.{eqb-true, eqb-false, ne_eqb}
 use lib.Bits.{bit_and}
@@ -55,7 +57,7 @@ AtExecute [] b = Unit
 AtExecute (Took c ∷ l) b = Unit
 AtExecute (Replied r ∷ l) b = Unit
 AtExecute (Handed (ItemObserve axis) ∷ l) b = Unit
-AtExecute (Handed (ItemExecute c ps) ∷ l) b = (o : Submission) × (call_of l ≡ some (Submit o)) × Sent o b
+AtExecute (Handed (ItemExecute c ps) ∷ l) b = (o : Submission) × (call_of l ≡ Some (Submit o)) × Sent o b
 AtExecute (Handed (ItemFallback axis r) ∷ l) b = Unit
 AtExecute (Handed (ItemRecord r) ∷ l) b = Unit
 AtExecute (Ended a ∷ l) b = Unit
@@ -81,7 +83,7 @@ plain_quiet (Handed (ItemRecord r) ∷ l) h = tt
 plain_quiet (Ended a ∷ l) h = tt
 
 -- the readiness checks hold
-is-ready : (now : ℕ) (b : Book) (cs : List Check) → first_failing (ready now b ++ cs) ≡ none → ¬ Unready b.state
+is-ready : (now : ℕ) (b : Book) (cs : List Check) → first_failing (ready now b ++ cs) ≡ None → ¬ Unready b.state
 is-ready now b cs e u = let f = fails-unready now b cs u in some-ne-none f.0 (sym f.1 ∙ e)
 
 -- ---- the calls
@@ -92,7 +94,7 @@ Ends l b a = Unit
 
 module _ (c : Call) where
   abbrev Within : Log → Book → Type 0
-  Within l b = Quiet l × (call_of l ≡ some c)
+  Within l b = Quiet l × (call_of l ≡ Some c)
 
   within : Kept AtExecute Ends Within
   unfolding call_of
@@ -124,24 +126,24 @@ module _ (c : Call) where
 
   sent-grant : (o : Option Reason) (r : LeaseRequest) (now : ℕ) (l : Log) (b : Book) → Within l b → Safe AtExecute Ends l (grant o r now b)
   unfolding grant
-  sent-grant (some reason) r now l b h = tt
-  sent-grant none r now l b h = sent-leased r.resource _ Reason.LeaseGranted now l _ h
+  sent-grant (Some reason) r now l b h = tt
+  sent-grant None r now l b h = sent-leased r.resource _ Reason.LeaseGranted now l _ h
 
   sent-extend : (axis : Option ℕ) (x : Option Lease) (r : Renewal) (l : Log) (b : Book) → Within l b → Safe AtExecute Ends l (extend r axis x b)
   unfolding extend
-  sent-extend none x r l b h = tt
-  sent-extend (some axis) none r l b h = tt
-  sent-extend (some axis) (some x) r l b h = sent-leased axis _ Reason.LeaseRenewed r.now l _ h
+  sent-extend None x r l b h = tt
+  sent-extend (Some axis) None r l b h = tt
+  sent-extend (Some axis) (Some x) r l b h = sent-leased axis _ Reason.LeaseRenewed r.now l _ h
 
   sent-renewed : (o : Option Reason) (r : Renewal) (l : Log) (b : Book) → Within l b → Safe AtExecute Ends l (renewed o r b)
   unfolding renewed
-  sent-renewed (some reason) r l b h = tt
-  sent-renewed none r l b h = sent-extend _ _ r l b h
+  sent-renewed (Some reason) r l b h = tt
+  sent-renewed None r l b h = sent-extend _ _ r l b h
 
   sent-canceled : (axis : Option ℕ) (now : ℕ) (l : Log) (b : Book) → Within l b → Safe AtExecute Ends l (canceled axis now b)
   unfolding canceled
-  sent-canceled none now l b h = tt
-  sent-canceled (some axis) now l b h = walk-fallback AtExecute Ends Within within axis Reason.Canceled now l b _ h after
+  sent-canceled None now l b h = tt
+  sent-canceled (Some axis) now l b h = walk-fallback AtExecute Ends Within within axis Reason.Canceled now l b _ h after
     where
       after : (ok : Bool) (l' : Log) (b' : Book) → Within l' b'
           → Safe AtExecute Ends l' (cond ok (Done (refresh_state b') Succeeded) (trip Reason.Driver now b' (λ b''. Done b'' (Refused Reason.Driver))))
@@ -158,14 +160,14 @@ module _ (c : Call) where
     sent-verify : (k : Capability) (end before : ℕ) (l : Log) (b : Book) → Within l b → (seen : Option Observation)
         → Safe AtExecute Ends l (verify k end before o b seen)
     unfolding verify complete
-    sent-verify k end before l b h none = sent-fail k Reason.Driver _ l b h
-    sent-verify k end before l b h (some seen) = go (verified k.verification o.action.parameters seen) _
+    sent-verify k end before l b h None = sent-fail k Reason.Driver _ l b h
+    sent-verify k end before l b h (Some seen) = go (verified k.verification o.action.parameters seen) _
       where
         go : (t : Bool) (p : Progress) → Safe AtExecute Ends l (cond t (complete k end p o b) (fail k Reason.Verification p o b))
         go true p = walk-record AtExecute Ends Within within _ l _ _ h (λ r l' b' h'. tt)
         go false p = sent-fail k Reason.Verification p l b h
 
-    sent-executing : (k : Capability) (end before : ℕ) (p : Progress) (l : Log) (b : Book) → call_of l ≡ some c → (ok : Bool)
+    sent-executing : (k : Capability) (end before : ℕ) (p : Progress) (l : Log) (b : Book) → call_of l ≡ Some c → (ok : Bool)
         → Safe AtExecute Ends (Replied (Executed ok) ∷ l)
         (cond ok (Observe k.resource b (verify k end before o b)) (fail k Reason.Driver p o b))
     unfolding call_of
@@ -173,11 +175,11 @@ module _ (c : Call) where
     sent-executing k end before p l b call false = sent-fail k Reason.Driver p _ b (tt, call)
 
     module _ (this : c ≡ Submit o) where
-      sent-dispatch : (k : Capability) (end : ℕ) (l : Log) (b : Book) → call_of l ≡ some c → Sent o b
+      sent-dispatch : (k : Capability) (end : ℕ) (l : Log) (b : Book) → call_of l ≡ Some c → Sent o b
           → (seen : Option Observation) → Safe AtExecute Ends (Replied (Observed seen) ∷ l) (dispatch k end o b seen)
       unfolding dispatch call_of
-      sent-dispatch k end l b call sent none = sent-fail k Reason.Driver _ _ b (tt, call)
-      sent-dispatch k end l b call sent (some seen) = ((o, call ∙ ap some this, sent), sent-executing k end seen.state _ _ b call)
+      sent-dispatch k end l b call sent None = sent-fail k Reason.Driver _ _ b (tt, call)
+      sent-dispatch k end l b call sent (Some seen) = ((o, call ∙ ap Some this, sent), sent-executing k end seen.state _ _ b call)
 
       -- every check holds
       sent-admitted : (l : Log) (b : Book) → Within l b → (a : Admissible o b) → ¬ Unready b.state
@@ -191,8 +193,8 @@ module _ (c : Call) where
       sent-admit : (f : Option Reason) (l : Log) (b : Book) → Within l b → first_failing (admission o b) ≡ f
           → Safe AtExecute Ends l (admit (verdict f (order_capability o b) (order_lease o b)) o b)
       unfolding admit verdict admission order_capability order_lease lease_for
-      sent-admit (some reason) l b h e = walk-reject AtExecute Ends Within within reason o l b h
-      sent-admit none l b h e =
+      sent-admit (Some reason) l b h e = walk-reject AtExecute Ends Within within reason o l b h
+      sent-admit None l b h e =
           let a = (admitted-exactly o b).0 e in
           rw (with-named a.known, a.leased) (sent-admitted l b h a (is-ready o.now b _ e))
 
@@ -226,7 +228,7 @@ always-sent s h =
 
 -- nothing but the start was logged, or it holds of a book that can be read
 abbrev Readable : Log → Phase → Type 0
-Readable l p = Plain l ⊎ ((b : Book) × (book_in p ≡ some b) × AtExecute l b)
+Readable l p = Plain l ⊎ ((b : Book) × (book_in p ≡ Some b) × AtExecute l b)
 
 readable : (s : Start) (l : Log) (p : Phase) → Holds s l p → Readable l p
 unfolding book_in
@@ -239,9 +241,9 @@ readable s l (Waiting w) h = inr (wait_book w, refl, at-wait AtExecute Ends l w 
 
 record Executing (s : Start) (h : History) : Type 0 where
   book : Book
-  shown : book_in (phase_after s h) ≡ some book
+  shown : book_in (phase_after s h) ≡ Some book
   order : Submission
-  call : call_of (log_of s h) ≡ some (Submit order)
+  call : call_of (log_of s h) ≡ Some (Submit order)
   sent : Sent order book
 
 executing : (s : Start) (h : History) (c : ℕ) (ps : List ℤ) → output_after s h ≡ Hands (ItemExecute c ps) → Executing s h
@@ -258,23 +260,23 @@ executing s h c ps e = go (readable s (log_of s h) (phase_after s h) (always-sen
         record { book = k.0; shown = k.1; order = x.0; call = ap call_of n.1 ∙ x.1; sent = x.2 }
 
 -- what readings see once the order is taken
-lease-shown : (o : Submission) (c : Capability) (x : Lease) (b : Book) → lease_at b c.resource ≡ some x
-    → lease_at (consumed c x o b) c.resource ≡ some (with_sequence o.action.sequence x)
+lease-shown : (o : Submission) (c : Capability) (x : Lease) (b : Book) → lease_at b c.resource ≡ Some x
+    → lease_at (consumed c x o b) c.resource ≡ Some (with_sequence o.action.sequence x)
 unfolding consumed with_replay with_leases
 lease-shown o c x b e =
     let v = with_sequence o.action.sequence x in
-    at_set none (λ y. y ≡ some v) b.leases c.resource (some v) c.resource (λ q. refl)
-    (λ m. absurd (none-ne-some x (sym (m refl) ∙ e)))
+    at_set None (λ y. y ≡ Some v) b.leases c.resource (Some v) c.resource (λ q. refl)
+    (λ m. absurd (none-some x (sym (m refl) ∙ e)))
 
 meets : (flags : ℕ) (c : Config) → bit_and flags c.estop_mask ≢ 0 → meets_estop flags c ≡ true
 unfolding meets_estop share_no_bit
 meets flags c n = rw (ne_eqb (bit_and flags c.estop_mask) 0 n)
 
 module _ (s : Start) (h : History) (c : ℕ) (ps : List ℤ) (out : output_after s h ≡ Hands (ItemExecute c ps)) (b : Book)
-    (shows : book_in (phase_after s h) ≡ some b) (k : Carried (log_of s h) c ps) where
+    (shows : book_in (phase_after s h) ≡ Some b) (k : Carried (log_of s h) c ps) where
   -- the lease that stands as the item is handed out has not expired: it is the live one
-  unexpired-at : (y : Capability) (x : Lease) → with_id k.submission.action.capability s.capabilities ≡ some y
-      → lease_at b y.resource ≡ some x → k.submission.now < x.expires_at
+  unexpired-at : (y : Capability) (x : Lease) → with_id k.submission.action.capability s.capabilities ≡ Some y
+      → lease_at b y.resource ≡ Some x → k.submission.now < x.expires_at
   unexpired-at y x known leased =
       let l = live-lease s h c ps out k in
       let same : l.capability ≡ y = some-injective _ _ (sym (with-named l.known) ∙ known) in
@@ -299,8 +301,8 @@ module _ (s : Start) (h : History) (c : ℕ) (ps : List ℤ) (out : output_after
       let x = with_sequence k.submission.action.sequence a.lease in
       let base = (holds s h b shows).0 in
       let caps : d.book.capabilities ≡ s.capabilities = sym (ap (λ (y : Book). y.capabilities) d.shown) ∙ base.capabilities in
-      let known = subst (λ cs. with_id k.submission.action.capability cs ≡ some a.capability) caps (with-named a.known) in
-      let leased : lease_at b a.capability.resource ≡ some x =
+      let known = subst (λ cs. with_id k.submission.action.capability cs ≡ Some a.capability) caps (with-named a.known) in
+      let leased : lease_at b a.capability.resource ≡ Some x =
       ap (λ (y : Book). lease_at y a.capability.resource) d.shown
       ∙ lease-shown k.submission a.capability a.lease d.book a.leased in
       let flags : b.flags ≡ d.book.flags = ap (λ (y : Book). y.flags) d.shown in
@@ -328,11 +330,11 @@ module _ (s : Start) (h : History) (c : ℕ) (ps : List ℤ) (out : output_after
         limits = subst (λ q. Inside a.lease.limits q) (sym k.parameters) a.bounds.1;
       }
 
-submit-same : {a b : Submission} → some (Submit a) ≡ some (Submit b) → a ≡ b
+submit-same : {a b : Submission} → Some (Submit a) ≡ Some (Submit b) → a ≡ b
 submit-same e = cc
 
 pub dispatch-admissible : (s : Start) (h : History) (c : ℕ) (ps : List ℤ) → output_after s h ≡ Hands (ItemExecute c ps)
-    → (b : Book) × (book_in (phase_after s h) ≡ some b) × Dispatched s (log_of s h) b c ps
+    → (b : Book) × (book_in (phase_after s h) ≡ Some b) × Dispatched s (log_of s h) b c ps
 dispatch-admissible s h c ps e =
     let a = executing s h c ps e in
     let k = only-submissions s h c ps e in

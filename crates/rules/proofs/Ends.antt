@@ -4,7 +4,9 @@ use Prim.Native.Nat.{ℕ}
 use mathlib.Core.Bool.{cond, false≢true}
 use mathlib.Core.List.{List, [], ◌∷◌, ◌++◌, append-nil}
 use mathlib.Core.Logic.{◌⊎◌, inl, inr}
-use mathlib.Core.Option.{Option, some, none-ne-some, some-injective}
+use Rattle.std.specs.Prelude.{Option, Some}
+use Rattle.std.proofs.lemmas.Option.{none-some}
+use Rattle.model.proofs.Options.{some-injective}
 use mathlib.Core.Path.{◌≡◌, sym, ap, ◌∙◌, subst}
 use Rattle.model.specs.declared.Receipt.{Receipt}
 use Rattle.model.specs.declared.Submission.{Submission}
@@ -72,7 +74,7 @@ module _ (b : Book) (x : Exchange) (l m : Log) (p : Phase) where
   records-at r is (Execute c ps b' f) w e k q = absurd (false≢true (let same = sym k.newest ∙ q in cc))
   records-at r is (Fallback axis reason b' f) w e k q = absurd (false≢true (let same = sym k.newest ∙ q in cc))
 
-module _ (s : Start) (h : History) (x : Exchange) (b : Book) (e : current (log_of s h) ≡ some x) (f : book_before s h ≡ some b) where
+module _ (s : Start) (h : History) (x : Exchange) (b : Book) (e : current (log_of s h) ≡ Some x) (f : book_before s h ≡ Some b) where
   pub ended : (a : Answer) → output_after s h ≡ Answers a → EndedAt b x a (phase_after s h)
   unfolding handed
   ended a out =
@@ -147,21 +149,21 @@ ticked-by x o later e =
 
 -- ---- where the call in hand was taken
 
-began : (p : Phase) (i : Input) (old : Option Book) (b : Book) → Step p i → opened i (react p i).output (book_in p) old ≡ some b
-    → (p ≡ Idle b) ⊎ (old ≡ some b)
+began : (p : Phase) (i : Input) (old : Option Book) (b : Book) → Step p i → opened i (react p i).output (book_in p) old ≡ Some b
+    → (p ≡ Idle b) ⊎ (old ≡ Some b)
 unfolding react apply effect called opened book_in
 began p i old b (stays st) e = inr (sym (st.book (book_in p) old) ∙ e)
 began p i old b (tries s axis rest good ok) e = inr e
 began p i old b (begins b₀ c) e =
-    inl (ap Idle (some-injective b₀ b (sym (ap (λ t. cond t (some b₀) old) (effective (begin c b₀))) ∙ e)))
+    inl (ap Idle (some-injective b₀ b (sym (ap (λ t. cond t (Some b₀) old) (effective (begin c b₀))) ∙ e)))
 began p i old b (answers t u a) e = inr e
 
-pub before-idle : (s : Start) (h : History) (b : Book) → book_before s h ≡ some b → (h₀ : History) × (phase_after s h₀ ≡ Idle b)
+pub before-idle : (s : Start) (h : History) (b : Book) → book_before s h ≡ Some b → (h₀ : History) × (phase_after s h₀ ≡ Idle b)
 unfolding book_before
-before-idle s [] b e = absurd (none-ne-some b e)
+before-idle s [] b e = absurd (none-some b e)
 before-idle s (i ∷ past) b e = go (began (phase_after s past) i (book_before s past) b (step (phase_after s past) i) e) (before-idle s past b)
   where
-    go : (phase_after s past ≡ Idle b) ⊎ (book_before s past ≡ some b) → (book_before s past ≡ some b → (h₀ : History) × (phase_after s h₀ ≡ Idle b))
+    go : (phase_after s past ≡ Idle b) ⊎ (book_before s past ≡ Some b) → (book_before s past ≡ Some b → (h₀ : History) × (phase_after s h₀ ≡ Idle b))
         → (h₀ : History) × (phase_after s h₀ ≡ Idle b)
     go (inl q) rest = (past, q)
     go (inr q) rest = rest q

@@ -2,7 +2,7 @@
 use Prim.Native.Nat.{ℕ, ◌+◌, min}
 use mathlib.Core.Bool.{Bool, true, false, cond, ◌&&◌}
 use mathlib.Core.List.{◌∷◌}
-use mathlib.Core.Option.{some, none}
+use Rattle.std.specs.Prelude.{Some, None}
 use mathlib.Core.Path.{◌≡◌, refl}
 use native.Mathlib.Omega.{arith}
 use borrow.Author.Tests.{ltb-true, ltb-false, eq-eqb}
@@ -73,7 +73,7 @@ module _ (s : Start) (e : Event) (l : Log) (b : Book) (no_stop : stops e l ≡ f
       go false = h
 
   -- other flags
-  pub epochs-new : (flags now : ℕ) → in_force e l ≡ true → call_of l ≡ some (UpdateState flags now) → eqb flags (flags_of s l) ≡ false
+  pub epochs-new : (flags now : ℕ) → in_force e l ≡ true → call_of l ≡ Some (UpdateState flags now) → eqb flags (flags_of s l) ≡ false
       → EpochsAs flags (bumps s l + 1) l b → EpochsAt s e l b
   unfolding flags_of updated
   epochs-new flags now on call new h = rw (no_stop, on, call, new) h
@@ -96,17 +96,17 @@ epochs-stopped s c l b seen stop config same h =
 
 -- ---- items
 
-is-called : (c : Call) (l : Log) → call_of l ≡ some c → is_some (call_of l) ≡ true
+is-called : (c : Call) (l : Log) → call_of l ≡ Some c → is_some (call_of l) ≡ true
 unfolding is_some
 is-called c l call = rw call
 
-pub epochs-fallen : (s : Start) (axis : ℕ) (reason : Reason) (c : Call) (l : Log) (b : Book) → call_of l ≡ some c
+pub epochs-fallen : (s : Start) (axis : ℕ) (reason : Reason) (c : Call) (l : Log) (b : Book) → call_of l ≡ Some c
     → EpochsAt s (Handed (ItemFallback axis reason)) l b → EpochsOf s (Handed (ItemFallback axis reason) ∷ l) (cleared axis b)
 unfolding bumps bumps_at seen_raise cleared bump_epoch with_epoch with_leases with_active
 epochs-fallen s axis reason c l b call h = rw (is-called c l call) (bumped _ _ h.in-force h)
 
 -- a startup fallback
-pub epochs-startup : (s : Start) (axis : ℕ) (reason : Reason) (l : Log) (b : Book) → call_of l ≡ none → EpochsOf s l b
+pub epochs-startup : (s : Start) (axis : ℕ) (reason : Reason) (l : Log) (b : Book) → call_of l ≡ None → EpochsOf s l b
     → EpochsOf s (Handed (ItemFallback axis reason) ∷ l) b
 unfolding bumps bumps_at seen_raise updated stops is_some
 epochs-startup s axis reason l b call h =

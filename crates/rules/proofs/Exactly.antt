@@ -4,7 +4,7 @@ use Prim.Native.Nat.{ℕ}
 use mathlib.Core.Bool.{◌&&◌, false≢true}
 use mathlib.Core.List.{List, ◌∷◌, ◌++◌, append_assoc}
 use mathlib.Core.Logic.{inl, inr, ◌↔◌}
-use mathlib.Core.Option.{Option, some, none}
+use Rattle.std.specs.Prelude.{Option, Some, None}
 use mathlib.Core.Path.{◌≡◌, refl, ap, ◌∙◌}
 use lib.Dec.{leb}
 use lib.IntN.{ℤ}
@@ -81,23 +81,23 @@ checked o b {v} {rs} {is} i d w m = go (first_failing (admission o b)) refl w
   where
     go : (f : Option Reason) → first_failing (admission o b) ≡ f
         → Runs (admit (verdict f (order_capability o b) (order_lease o b)) o b) rs is v → Admissible o b
-    go none e w = (admitted-exactly o b).0 e
-    go (some reason) e w = absurd (quiet i d (quiet-reject reason o b) w m)
+    go None e w = (admitted-exactly o b).0 e
+    go (Some reason) e w = absurd (quiet i d (quiet-reject reason o b) w m)
 
 -- execute only if the first observation is good
 seen_first : (a : Verdict) (o : Submission) (b : Book) {v : Interaction} {rs : List Reply} {is : List Item} (c : ℕ) (p : List ℤ)
     → Runs (admit a o b) rs is v → Mem (ItemExecute c p) (is ++ items_at v)
-    → (seen : Observation) × (after : List Reply) × (rs ≡ Observed (some seen) ∷ after)
+    → (seen : Observation) × (after : List Reply) × (rs ≡ Observed (Some seen) ∷ after)
 unfolding admit dispatch items_at
 seen_first (Rejects reason) o b c p w m = absurd (quiet (ItemExecute c p) tt (quiet-reject reason o b) w m)
 seen_first (Admits y l) o b c p here (inl q) = absurd (false≢true (cc))
 seen_first (Admits y l) o b c p here (inr m) = absurd m
-seen_first (Admits y l) o b c p (then {rs = rs} (observed {o = some seen}) w) m = (seen, rs, refl)
-seen_first (Admits y l) o b c p (then (observed {o = none}) w) (inl q) = absurd (false≢true (cc))
-seen_first (Admits y l) o b c p (then (observed {o = none}) w) (inr m) = absurd (quiet (ItemExecute c p) tt (quiet-fail y _ _ o _) w m)
+seen_first (Admits y l) o b c p (then {rs = rs} (observed {o = Some seen}) w) m = (seen, rs, refl)
+seen_first (Admits y l) o b c p (then (observed {o = None}) w) (inl q) = absurd (false≢true (cc))
+seen_first (Admits y l) o b c p (then (observed {o = None}) w) (inr m) = absurd (quiet (ItemExecute c p) tt (quiet-fail y _ _ o _) w m)
 
 after-observation : (c : Capability) (l : Lease) (o : Submission) (b : Book) {seen : Observation} {v : Interaction} {rs : List Reply}
-    {is : List Item} → Runs (admit (Admits c l) o b) (Observed (some seen) ∷ rs) is v
+    {is : List Item} → Runs (admit (Admits c l) o b) (Observed (Some seen) ∷ rs) is v
     → Mem (ItemExecute c.id o.action.parameters) (is ++ items_at v)
 unfolding admit dispatch items_at
 after-observation c l o b (then observed w) = inr (first-item _ w (inl refl))
@@ -114,7 +114,7 @@ module _ (o : Submission) (b : Book) (a : Admissible o b) where
   observes w = first-item _ (rw admits at w) (inl refl)
 
   executes : {seen : Observation} {v : Interaction} {rs after : List Reply} {is : List Item}
-      → Runs (admit (validate o b) o b) rs is v → rs ≡ Observed (some seen) ∷ after
+      → Runs (admit (validate o b) o b) rs is v → rs ≡ Observed (Some seen) ∷ after
       → Mem (ItemExecute o.action.capability o.action.parameters) (is ++ items_at v)
   executes w e =
       rw (← a.known.own)
@@ -172,11 +172,11 @@ module _ (b : Book) (o : Submission) (x : Exchange) (k : Ran b x) (call : x.call
         rw k.items (r.among _ (executes o p.book p.admissible (rw r.end.1 at r.left) c.good)),
   )
 
-pub admitted-iff : (s : Start) (h : History) (x : Exchange) (b : Book) → current (log_of s h) ≡ some x → book_before s h ≡ some b
+pub admitted-iff : (s : Start) (h : History) (x : Exchange) (b : Book) → current (log_of s h) ≡ Some x → book_before s h ≡ Some b
     → (o : Submission) → x.call ≡ Submit o → ((axis : ℕ) × Mem (ItemObserve axis) x.items) ↔ Passes b o x
 admitted-iff s h x b e f o call = is-admitted b o x (ran s h x b e f) call
 
-pub exactly : (s : Start) (h : History) (x : Exchange) (b : Book) → current (log_of s h) ≡ some x → book_before s h ≡ some b
+pub exactly : (s : Start) (h : History) (x : Exchange) (b : Book) → current (log_of s h) ≡ Some x → book_before s h ≡ Some b
     → (o : Submission) → x.call ≡ Submit o
     → Mem (ItemExecute o.action.capability o.action.parameters) x.items ↔ Clears b o x
 exactly s h x b e f o call = is-cleared b o x (ran s h x b e f) call

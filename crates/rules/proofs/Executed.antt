@@ -3,7 +3,8 @@ use Prim.Native.Nat.{ℕ}
 use mathlib.Core.Bool.{Bool, true, false, cond, ◌&&◌, false≢true}
 use mathlib.Core.List.{List, [], ◌∷◌, ◌++◌}
 use mathlib.Core.Logic.{◌≢◌, ◌⊎◌, inl, inr, ◌↔◌}
-use mathlib.Core.Option.{Option, some, none, some-injective}
+use Rattle.std.specs.Prelude.{Option, Some, None}
+use Rattle.model.proofs.Options.{some-injective}
 use mathlib.Core.Path.{◌≡◌, refl, sym, ap, ap₂, ◌∙◌, subst}
 use native.Mathlib.Omega.{arith}
 use borrow.Author.Tests.{eqb-true, eq-eqb, leb-true, le-leb}
@@ -138,7 +139,7 @@ fell-short : {rs : List Reply} {is : List Item} {after : Book} {r : Receipt} (c 
     → Runs (fail c reason p o b) rs is (Done after (Submitted r)) → FellShort o.now reason b after rs is r
 unfolding fail record_receipt trip numbered order_receipt kept with_next_receipt with_receipts with_state
 fell-short {rs} {is} {after} {r} c reason p o b w =
-    let own = numbered b.next_receipt (order_receipt o (some c) Decision.Failed reason 0 p b) in
+    let own = numbered b.next_receipt (order_receipt o (Some c) Decision.Failed reason 0 p b) in
     let k = noted w in
     let m = swept-fallbacks (Submitted own) (used_axes b.capabilities) reason o.now _ k.left in
     let same = submitted-same m.1.1 in
@@ -158,7 +159,7 @@ fell-short {rs} {is} {after} {r} c reason p o b w =
     })
 
 data Came (c : Capability) (o : Submission) (b : Book) (rs : List Reply) (is : List Item) (after : Book) (r : Receipt) : Type 0 where
-  all-four : (first second : Observation) → rs ≡ Observed (some first) ∷ Executed true ∷ Observed (some second) ∷ Recorded ∷ []
+  all-four : (first second : Observation) → rs ≡ Observed (Some first) ∷ Executed true ∷ Observed (Some second) ∷ Recorded ∷ []
       → verified c.verification o.action.parameters second ≡ true → r.decision ≡ Decision.Executed → Came c o b rs is after r
   short : (reason : Reason) (steps later : List Reply) (first items : List Item) → FailedBy c.verification o.action.parameters steps reason
       → rs ≡ steps ++ later → is ≡ first ++ items → FellShort o.now reason b after later items r → Came c o b rs is after r
@@ -177,17 +178,17 @@ module _ (c : Capability) (o : Submission) (end : ℕ) (b : Book) where
   -- the second observation
   came-verify : {rs : List Reply} {is : List Item} {after : Book} {r : Receipt} (first : Observation) (before : ℕ) (seen : Option Observation)
       → Runs (verify c end before o b seen) rs is (Done after (Submitted r))
-      → Came c o b (Observed (some first) ∷ Executed true ∷ Observed seen ∷ rs) is after r
+      → Came c o b (Observed (Some first) ∷ Executed true ∷ Observed seen ∷ rs) is after r
   unfolding verify
-  came-verify first before none w = short _ _ _ [] _ unobserved-after refl refl (fell-short c _ _ o b w)
-  came-verify {rs} {is} {after} {r} first before (some second) w = go _ (verified c.verification o.action.parameters second) refl w
+  came-verify first before None w = short _ _ _ [] _ unobserved-after refl refl (fell-short c _ _ o b w)
+  came-verify {rs} {is} {after} {r} first before (Some second) w = go _ (verified c.verification o.action.parameters second) refl w
     where
       go : (p : Progress) (t : Bool) → verified c.verification o.action.parameters second ≡ t
           → Runs (cond t (complete c end p o b) (fail c Reason.Verification p o b)) rs is (Done after (Submitted r))
-          → Came c o b (Observed (some first) ∷ Executed true ∷ Observed (some second) ∷ rs) is after r
+          → Came c o b (Observed (Some first) ∷ Executed true ∷ Observed (Some second) ∷ rs) is after r
       go p true e w =
           let k = completed c end p o b w in
-          all-four first second (ap (λ (q : List Reply). Observed (some first) ∷ Executed true ∷ Observed (some second) ∷ q) k.0) e k.1
+          all-four first second (ap (λ (q : List Reply). Observed (Some first) ∷ Executed true ∷ Observed (Some second) ∷ q) k.0) e k.1
       go p false e w = short _ _ _ [] _ (unverified (λ k. false≢true (sym e ∙ means-verified _ _ _ k))) refl refl (fell-short c _ p o b w)
 
   came-later : {rs : List Reply} {is : List Item} {after : Book} {r : Receipt} (i : Item) → Came c o b rs is after r → Came c o b rs (i ∷ is) after r
@@ -197,15 +198,15 @@ module _ (c : Capability) (o : Submission) (end : ℕ) (b : Book) where
 
   came-executed : {rs : List Reply} {is : List Item} {after : Book} {r : Receipt} (first : Observation) (before : ℕ)
       → Runs (Observe c.resource b (verify c end before o b)) rs is (Done after (Submitted r))
-      → Came c o b (Observed (some first) ∷ Executed true ∷ rs) is after r
+      → Came c o b (Observed (Some first) ∷ Executed true ∷ rs) is after r
   came-executed first before (then (observed {o = seen}) w) = came-later _ (came-verify first before seen w)
 
   came-dispatch : {rs : List Reply} {is : List Item} {after : Book} {r : Receipt} (seen : Option Observation)
       → Runs (dispatch c end o b seen) rs is (Done after (Submitted r)) → Came c o b (Observed seen ∷ rs) is after r
   unfolding dispatch
-  came-dispatch none w = short _ _ _ [] _ unobserved refl refl (fell-short c _ _ o b w)
-  came-dispatch (some first) (then (executed {ok = false}) w) = came-later _ (short _ _ _ [] _ unexecuted refl refl (fell-short c _ _ o b w))
-  came-dispatch (some first) (then (executed {ok = true}) w) = came-later _ (came-executed first _ w)
+  came-dispatch None w = short _ _ _ [] _ unobserved refl refl (fell-short c _ _ o b w)
+  came-dispatch (Some first) (then (executed {ok = false}) w) = came-later _ (short _ _ _ [] _ unexecuted refl refl (fell-short c _ _ o b w))
+  came-dispatch (Some first) (then (executed {ok = true}) w) = came-later _ (came-executed first _ w)
 
 came : {rs : List Reply} {is : List Item} {after : Book} {r : Receipt} (c : Capability) (l : Lease) (o : Submission) (b : Book)
     → Runs (admit (Admits c l) o b) rs is (Done after (Submitted r)) → Came c o (consumed c l o b) rs is after r
@@ -219,7 +220,7 @@ active-so c o l Class.Stream = stream refl refl
 active-so c o l Class.Discrete = discrete refl refl
 active-so c o l Class.Control = control
 
-module _ (c : Capability) (l : Lease) (o : Submission) (b : Book) (held : lease_at b c.resource ≡ some l) (first second : Observation)
+module _ (c : Capability) (l : Lease) (o : Submission) (b : Book) (held : lease_at b c.resource ≡ Some l) (first second : Observation)
     (good : verified c.verification o.action.parameters second ≡ true) where
   -- what it says and leaves
   abbrev Ends : Book → Receipt → Type 0
@@ -261,19 +262,19 @@ module _ (c : Capability) (l : Lease) (o : Submission) (b : Book) (held : lease_
       )
 
   completes-verify : {rs : List Reply} {is : List Item} {after : Book} {r : Receipt}
-      → Runs (Observe c.resource (consumed c l o b) (verify c (stream_end l o) first.state o (consumed c l o b))) (Observed (some second) ∷ rs) is
+      → Runs (Observe c.resource (consumed c l o b) (verify c (stream_end l o) first.state o (consumed c l o b))) (Observed (Some second) ∷ rs) is
       (Done after (Submitted r)) → Ends after r
   unfolding verify
   completes-verify (then observed w) = completing (rw good at w)
 
   completes-dispatch : {rs : List Reply} {is : List Item} {after : Book} {r : Receipt}
-      → Runs (dispatch c (stream_end l o) o (consumed c l o b) (some first)) (Executed true ∷ Observed (some second) ∷ rs) is (Done after (Submitted r))
+      → Runs (dispatch c (stream_end l o) o (consumed c l o b) (Some first)) (Executed true ∷ Observed (Some second) ∷ rs) is (Done after (Submitted r))
       → Ends after r
   unfolding dispatch
   completes-dispatch (then executed w) = completes-verify w
 
   completes : {rs : List Reply} {is : List Item} {after : Book} {r : Receipt}
-      → Runs (admit (Admits c l) o b) (Observed (some first) ∷ Executed true ∷ Observed (some second) ∷ rs) is (Done after (Submitted r)) → Ends after r
+      → Runs (admit (Admits c l) o b) (Observed (Some first) ∷ Executed true ∷ Observed (Some second) ∷ rs) is (Done after (Submitted r)) → Ends after r
   unfolding admit
   completes (then observed w) = completes-dispatch w
 
@@ -301,8 +302,8 @@ unfolding validate verdict
 judged o b = go (first_failing (admission o b)) refl
   where
     go : (f : Option Reason) → first_failing (admission o b) ≡ f → Judged o b
-    go none e = admitted ((admitted-exactly o b).0 e)
-    go (some reason) e = refused reason (rw e)
+    go None e = admitted ((admitted-exactly o b).0 e)
+    go (Some reason) e = refused reason (rw e)
 
 -- what is left of a submission's run after the run of its tick
 past-tick : {rs first second : List Reply} {first_items is : List Item} {book : Book} {v : Interaction} (c : Call) (o : Submission) (before : Book)
@@ -312,7 +313,7 @@ unfolding begin submit
 past-tick c o before e q ticked w = resumes o.now (λ b. admit (validate o b) o b) before q ticked (rw e at w)
 
 module _ (s : Start) (h : History) (x : Exchange) (b : Book) (r : Receipt) (out : output_after s h ≡ Answers (Submitted r))
-    (e : current (log_of s h) ≡ some x) (f : book_before s h ≡ some b) where
+    (e : current (log_of s h) ≡ Some x) (f : book_before s h ≡ Some b) where
   at : EndedAt b x (Submitted r) (phase_after s h)
   at = ended s h x b e f (Submitted r) out
 
@@ -369,7 +370,7 @@ module _ (s : Start) (h : History) (x : Exchange) (b : Book) (r : Receipt) (out 
   all-four-end p = go (judged p.order p.book)
     where
       w : Runs (admit (validate p.order p.book) p.order p.book)
-          (Observed (some p.first) ∷ Executed true ∷ Observed (some p.second) ∷ Recorded ∷ []) (after-tick p).0 (Done at.book (Submitted r))
+          (Observed (Some p.first) ∷ Executed true ∷ Observed (Some p.second) ∷ Recorded ∷ []) (after-tick p).0 (Done at.book (Submitted r))
       w =
           subst (λ (rs : List Reply). Runs (admit (validate p.order p.book) p.order p.book) rs (after-tick p).0 (Done at.book (Submitted r)))
           p.replies (after-tick p).1

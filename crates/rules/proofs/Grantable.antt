@@ -2,7 +2,8 @@
 -- Assumes nothing.
 use Prim.Native.Nat.{ℕ}
 use mathlib.Core.Bool.{true, not, false≢true}
-use mathlib.Core.Option.{Option, some, none, some-injective}
+use Rattle.std.specs.Prelude.{Option, Some, None}
+use Rattle.model.proofs.Options.{some-injective}
 use mathlib.Core.Path.{◌≡◌, refl, sym, ap, ◌∙◌}
 use borrow.Author.Tests.{ltb-true, leb-true, leb-false, le-leb, lt-leb, not-true}
 use lib.Dec.{eqb}
@@ -37,12 +38,12 @@ module _ (now : ℕ) (b : Book) where
 
 -- ---- acquire
 
-free_of : (o : Option Lease) → is_free o ≡ true → o ≡ none
+free_of : (o : Option Lease) → is_free o ≡ true → o ≡ None
 unfolding is_free
-free_of none e = refl
-free_of (some l) e = absurd (false≢true e)
+free_of None e = refl
+free_of (Some l) e = absurd (false≢true e)
 
-pub grantable : (r : LeaseRequest) (now : ℕ) (b : Book) → first_failing (acquire_checks r now b) ≡ none → Grantable r now b
+pub grantable : (r : LeaseRequest) (now : ℕ) (b : Book) → first_failing (acquire_checks r now b) ≡ None → Grantable r now b
 unfolding acquire_checks ready is_stale valid_request
 grantable r now b e =
     let h = none-fails (acquire_checks r now b) e in
@@ -62,7 +63,7 @@ grantable r now b e =
       fits = leb-true _ _ h.1.1.1.1.1.1.1.0;
     }
 
-pub grantable-checked : (r : LeaseRequest) (now : ℕ) (b : Book) → Grantable r now b → first_failing (acquire_checks r now b) ≡ none
+pub grantable-checked : (r : LeaseRequest) (now : ℕ) (b : Book) → Grantable r now b → first_failing (acquire_checks r now b) ≡ None
 unfolding acquire_checks ready is_stale valid_request is_free
 grantable-checked r now b g =
     let used : axis_used b.capabilities r.resource ≡ true = rw (← g.used.2) (named-used g.used.0 b.capabilities g.used.1) in
@@ -88,14 +89,14 @@ grantable-checked r now b g =
 
 -- ---- renew
 
-pub renewable : (r : Renewal) (b : Book) (axis : ℕ) (l : Lease) → first_failing (renew_checks r b) ≡ none
-    → held_axis r.owner r.lease_id b ≡ some axis → lease_at b axis ≡ some l → Renewable r b axis l
+pub renewable : (r : Renewal) (b : Book) (axis : ℕ) (l : Lease) → first_failing (renew_checks r b) ≡ None
+    → held_axis r.owner r.lease_id b ≡ Some axis → lease_at b axis ≡ Some l → Renewable r b axis l
 unfolding renew_checks ready is_stale held_lease lease_on held_axis
 renewable r b axis l e q stands =
     let h = none-fails (renew_checks r b) e in
     let k = held r.owner r.lease_id b axes axis q in
     let same : k.lease ≡ l = some-injective _ _ (sym k.stands ∙ stands) in
-    let found : held_lease r.owner r.lease_id b ≡ some l = rw q stands in
+    let found : held_lease r.owner r.lease_id b ≡ Some l = rw q stands in
     record {
       ready = is-ready r.now b (h.0, (h.1.0, (h.1.1.0, (h.1.1.1.0, tt))));
       duration = duration-fits _ _ h.1.1.1.1.0;

@@ -4,7 +4,9 @@ use Prim.Native.Nat.{ℕ, zero, suc, ◌+◌, ◌<◌, ◌≤◌}
 use mathlib.Core.Bool.{Bool, true, false, cond, false≢true}
 use mathlib.Core.List.{List, [], ◌∷◌, map}
 use mathlib.Core.Logic.{inl, inr, ◌≢◌}
-use mathlib.Core.Option.{Option, some, none, none-ne-some, some-injective}
+use Rattle.std.specs.Prelude.{Option, Some, None}
+use Rattle.std.proofs.lemmas.Option.{none-some}
+use Rattle.model.proofs.Options.{some-injective}
 use mathlib.Core.Path.{◌≡◌, refl, sym, ap, ◌∙◌, subst}
 use native.Mathlib.Omega.{arith}
 use borrow.Author.Tests.{eqb-true, eq-eqb, ne_eqb}
@@ -46,35 +48,35 @@ use Rattle.rules.proofs.Epochs.{EpochsOf, EpochsAt, epochs-took, epochs-stopped,
 -- ---- the invariant, in three parts, with Epochs as a fourth
 
 abbrev pub held : Option Lease → Option Tenancy
-held none = none
-held (some x) = some (tenancy_in x)
+held None = None
+held (Some x) = Some (tenancy_in x)
 
 abbrev IdBelow : ℕ → Option Lease → Type 0
-IdBelow n none = Unit
-IdBelow n (some x) = x.id < n
+IdBelow n None = Unit
+IdBelow n (Some x) = x.id < n
 
 abbrev pub LastIs : List Admitted → Option Lease → Type 0
-LastIs A none = Unit
-LastIs A (some x) = x.last_sequence ≡ highest x.id A
+LastIs A None = Unit
+LastIs A (Some x) = x.last_sequence ≡ highest x.id A
 
 -- a lease names the axis on which it stands
 abbrev OnAxis : ℕ → Option Lease → Type 0
-OnAxis i none = Unit
-OnAxis i (some x) = x.resource ≡ i
+OnAxis i None = Unit
+OnAxis i (Some x) = x.resource ≡ i
 
 abbrev Unique : List (Option Lease) → Type 0
-Unique ls = (i j : ℕ) (x y : Lease) → get_or ls i none ≡ some x → get_or ls j none ≡ some y → x.id ≡ y.id → i ≡ j
+Unique ls = (i j : ℕ) (x y : Lease) → get_or ls i None ≡ Some x → get_or ls j None ≡ Some y → x.id ≡ y.id → i ≡ j
 
 -- the leases: `A` were admitted, `L` are the live leases
 pub record Leases (A : List Admitted) (L : ℕ → Option Tenancy) (leases : List (Option Lease)) (next_lease : ℕ) : Type 0 where
   pub eight : length leases ≡ 8
   pub fits : next_lease ≤ top
-  pub below : (i : ℕ) → IdBelow next_lease (get_or leases i none)
+  pub below : (i : ℕ) → IdBelow next_lease (get_or leases i None)
   pub unique : Unique leases
-  pub stands : (i : ℕ) → L i ≡ held (get_or leases i none)
+  pub stands : (i : ℕ) → L i ≡ held (get_or leases i None)
   pub known : (a : Admitted) → Mem a A → a.submission.action.lease_id < next_lease
-  pub last : (i : ℕ) → LastIs A (get_or leases i none)
-  pub home : (i : ℕ) → OnAxis i (get_or leases i none)
+  pub last : (i : ℕ) → LastIs A (get_or leases i None)
+  pub home : (i : ℕ) → OnAxis i (get_or leases i None)
 
 abbrev pub orders : List Submission → List Action
 orders xs = map (λ x. x.action) xs
@@ -241,30 +243,30 @@ inv-recorded s r l b quiet id h =
 -- ---- a fallback ends the lease of its axis
 
 leases-fallen : (A : List Admitted) (L : ℕ → Option Tenancy) (ls : List (Option Lease)) (n axis : ℕ) → Leases A L ls n
-    → Leases A (λ i. cond (eqb axis i) none (L i)) (set ls axis none) n
+    → Leases A (λ i. cond (eqb axis i) None (L i)) (set ls axis None) n
 leases-fallen A L ls n axis f =
     record {
-      eight = length-set ls axis none ∙ f.eight;
+      eight = length-set ls axis None ∙ f.eight;
       fits = f.fits;
-      below = λ i. at_set none (IdBelow n) ls axis none i (λ e. tt) (λ m. f.below i);
+      below = λ i. at_set None (IdBelow n) ls axis None i (λ e. tt) (λ m. f.below i);
       unique = λ i j x y.
-          at_set none (λ o. o ≡ some x → get_or (set ls axis none) j none ≡ some y → x.id ≡ y.id → i ≡ j) ls axis none i
-          (λ e p. absurd (none-ne-some _ p))
-          (λ m p. at_set none (λ o. o ≡ some y → x.id ≡ y.id → i ≡ j) ls axis none j (λ e q. absurd (none-ne-some _ q)) (λ k q. f.unique i j x y p q));
-      stands = λ i. at_set none (λ o. cond (eqb axis i) none (L i) ≡ held o) ls axis none i
+          at_set None (λ o. o ≡ Some x → get_or (set ls axis None) j None ≡ Some y → x.id ≡ y.id → i ≡ j) ls axis None i
+          (λ e p. absurd (none-some _ p))
+          (λ m p. at_set None (λ o. o ≡ Some y → x.id ≡ y.id → i ≡ j) ls axis None j (λ e q. absurd (none-some _ q)) (λ k q. f.unique i j x y p q));
+      stands = λ i. at_set None (λ o. cond (eqb axis i) None (L i) ≡ held o) ls axis None i
           (λ e. rw (eq-eqb axis i (sym e)))
           (λ m. ended i (eqb axis i) refl m (f.stands i));
       known = f.known;
-      last = λ i. at_set none (LastIs A) ls axis none i (λ e. tt) (λ m. f.last i);
-      home = λ i. at_set none (OnAxis i) ls axis none i (λ e. tt) (λ m. f.home i);
+      last = λ i. at_set None (LastIs A) ls axis None i (λ e. tt) (λ m. f.last i);
+      home = λ i. at_set None (OnAxis i) ls axis None i (λ e. tt) (λ m. f.home i);
     }
   where
-    ended : (i : ℕ) (t : Bool) → eqb axis i ≡ t → (i ≡ axis → get_or ls i none ≡ none) → L i ≡ held (get_or ls i none) → cond t none (L i) ≡ held (get_or ls i none)
+    ended : (i : ℕ) (t : Bool) → eqb axis i ≡ t → (i ≡ axis → get_or ls i None ≡ None) → L i ≡ held (get_or ls i None) → cond t None (L i) ≡ held (get_or ls i None)
     ended i true e m k = sym (ap held (m (sym (eqb-true axis i e))))
     ended i false e m k = k
 
 -- as the item is handed out, the flags that it brings into force are set
-pub inv-fallen : (s : Start) (axis : ℕ) (reason : Reason) (c : Call) (l : Log) (b : Book) → call_of l ≡ some c → InvBook s l b
+pub inv-fallen : (s : Start) (axis : ℕ) (reason : Reason) (c : Call) (l : Log) (b : Book) → call_of l ≡ Some c → InvBook s l b
     → EpochsAt s (Handed (ItemFallback axis reason)) l b → I s (Handed (ItemFallback axis reason) ∷ l) (cleared axis b)
 unfolding executed reaching admissions admitting live holding receipts_kept kept_with next_number counted cleared bump_epoch with_epoch with_leases with_active
 inv-fallen s axis reason c l b call f e = (
@@ -283,34 +285,34 @@ inv-fallen s axis reason c l b call f e = (
 
 -- ---- leases of one number
 
-below_at : (n : ℕ) (o : Option Lease) (y : Lease) → o ≡ some y → IdBelow n o → y.id < n
+below_at : (n : ℕ) (o : Option Lease) (y : Lease) → o ≡ Some y → IdBelow n o → y.id < n
 below_at n o y e h = rw e at h
 
-last-at : (A : List Admitted) (o : Option Lease) (y : Lease) → o ≡ some y → LastIs A o → y.last_sequence ≡ highest y.id A
+last-at : (A : List Admitted) (o : Option Lease) (y : Lease) → o ≡ Some y → LastIs A o → y.last_sequence ≡ highest y.id A
 last-at A o y e h = rw e at h
 
-home_at : (i : ℕ) (o : Option Lease) (y : Lease) → o ≡ some y → OnAxis i o → y.resource ≡ i
+home_at : (i : ℕ) (o : Option Lease) (y : Lease) → o ≡ Some y → OnAxis i o → y.resource ≡ i
 home_at i o y e h = rw e at h
 
 -- a lease with a number that none has
-unique-new : (ls : List (Option Lease)) (axis n : ℕ) (v : Lease) → v.id ≡ n → ((i : ℕ) → IdBelow n (get_or ls i none)) → Unique ls → Unique (set ls axis (some v))
+unique-new : (ls : List (Option Lease)) (axis n : ℕ) (v : Lease) → v.id ≡ n → ((i : ℕ) → IdBelow n (get_or ls i None)) → Unique ls → Unique (set ls axis (Some v))
 unique-new ls axis n v id below unique i j x y =
-    at_set none (λ o. o ≡ some x → get_or (set ls axis (some v)) j none ≡ some y → x.id ≡ y.id → i ≡ j) ls axis (some v) i
-    (λ e p. at_set none (λ o. o ≡ some y → x.id ≡ y.id → i ≡ j) ls axis (some v) j
+    at_set None (λ o. o ≡ Some x → get_or (set ls axis (Some v)) j None ≡ Some y → x.id ≡ y.id → i ≡ j) ls axis (Some v) i
+    (λ e p. at_set None (λ o. o ≡ Some y → x.id ≡ y.id → i ≡ j) ls axis (Some v) j
     (λ e' q k. e ∙ sym e')
-    (λ m q k. absurd (omega (arith, below_at n (get_or ls j none) y q (below j), ap (λ (z : Lease). z.id) (some-injective _ _ p)))))
-    (λ m p. at_set none (λ o. o ≡ some y → x.id ≡ y.id → i ≡ j) ls axis (some v) j
-    (λ e q k. absurd (omega (arith, below_at n (get_or ls i none) x p (below i), ap (λ (z : Lease). z.id) (some-injective _ _ q))))
+    (λ m q k. absurd (omega (arith, below_at n (get_or ls j None) y q (below j), ap (λ (z : Lease). z.id) (some-injective _ _ p)))))
+    (λ m p. at_set None (λ o. o ≡ Some y → x.id ≡ y.id → i ≡ j) ls axis (Some v) j
+    (λ e q k. absurd (omega (arith, below_at n (get_or ls i None) x p (below i), ap (λ (z : Lease). z.id) (some-injective _ _ q))))
     (λ m' q k. unique i j x y p q k))
 
 -- a lease with the number of the one that it takes the place of
-unique-same : (ls : List (Option Lease)) (axis : ℕ) (u v : Lease) → get_or ls axis none ≡ some u → v.id ≡ u.id → Unique ls → Unique (set ls axis (some v))
+unique-same : (ls : List (Option Lease)) (axis : ℕ) (u v : Lease) → get_or ls axis None ≡ Some u → v.id ≡ u.id → Unique ls → Unique (set ls axis (Some v))
 unique-same ls axis u v at id unique i j x y =
-    at_set none (λ o. o ≡ some x → get_or (set ls axis (some v)) j none ≡ some y → x.id ≡ y.id → i ≡ j) ls axis (some v) i
-    (λ e p. at_set none (λ o. o ≡ some y → x.id ≡ y.id → i ≡ j) ls axis (some v) j
+    at_set None (λ o. o ≡ Some x → get_or (set ls axis (Some v)) j None ≡ Some y → x.id ≡ y.id → i ≡ j) ls axis (Some v) i
+    (λ e p. at_set None (λ o. o ≡ Some y → x.id ≡ y.id → i ≡ j) ls axis (Some v) j
     (λ e' q k. e ∙ sym e')
     (λ m q k. e ∙ unique axis j u y at q (sym id ∙ ap (λ (z : Lease). z.id) (some-injective _ _ p) ∙ k)))
-    (λ m p. at_set none (λ o. o ≡ some y → x.id ≡ y.id → i ≡ j) ls axis (some v) j
+    (λ m p. at_set None (λ o. o ≡ Some y → x.id ≡ y.id → i ≡ j) ls axis (Some v) j
     (λ e q k. unique i axis x u p at (k ∙ sym (ap (λ (z : Lease). z.id) (some-injective _ _ q)) ∙ id) ∙ sym e)
     (λ m' q k. unique i j x y p q k))
 
@@ -324,7 +326,7 @@ pub record Granting (r : Receipt) (request : LeaseRequest) (n : ℕ) (next : ℕ
   pub number : r.receipt_id ≡ next
 
 pub inv-granted : (s : Start) (r : Receipt) (request : LeaseRequest) (now : ℕ) (l : Log) (b : Book) → Granting r request b.next_lease b.next_receipt
-    → request.resource < 8 → b.next_lease < top → lease_at b request.resource ≡ none → call_of l ≡ some (Acquire request now) → I s l b
+    → request.resource < 8 → b.next_lease < top → lease_at b request.resource ≡ None → call_of l ≡ Some (Acquire request now) → I s l b
     → I s (Handed (ItemRecord r) ∷ l) (kept r (granted (new_lease request b.next_lease now) b))
 unfolding executed reaching admissions admitting live holding recorded_on tenancy_of receipts_kept kept_with next_number counted kept with_next_receipt with_receipts granted refresh_state with_state bump_epoch with_epoch with_leases with_next_lease new_lease
 inv-granted s r request now l b g inside room free call h =
@@ -341,17 +343,17 @@ inv-granted s r request now l b g inside room free call h =
         capabilities = f.capabilities;
         leasing =
             record {
-              eight = length-set b.leases axis (some x) ∙ n.eight;
+              eight = length-set b.leases axis (Some x) ∙ n.eight;
               fits = omega arith;
-              below = λ i. at_set none (IdBelow (bump b.next_lease)) b.leases axis (some x) i (λ e. omega arith) (λ m. more (get_or b.leases i none) up (n.below i));
+              below = λ i. at_set None (IdBelow (bump b.next_lease)) b.leases axis (Some x) i (λ e. omega arith) (λ m. more (get_or b.leases i None) up (n.below i));
               unique = unique-new b.leases axis b.next_lease x refl n.below n.unique;
-              stands = λ i. at-set-in none (λ o. recorded_on i r (call_of l) (live i l) ≡ held o) b.leases axis (some x) i (omega (arith, n.eight))
+              stands = λ i. at-set-in None (λ o. recorded_on i r (call_of l) (live i l) ≡ held o) b.leases axis (Some x) i (omega (arith, n.eight))
                   (λ e. rw (g.control, eq-eqb _ _ (g.axis ∙ sym e), g.grant, g.lease, call))
                   (λ d. rw (g.control, ne_eqb _ _ (λ q. d (sym q ∙ g.axis))) (n.stands i));
               known = λ a m. omega (arith, n.known a m);
-              last = λ i. at_set none (LastIs (admissions l)) b.leases axis (some x) i
+              last = λ i. at_set None (LastIs (admissions l)) b.leases axis (Some x) i
                   (λ e. sym (highest-none b.next_lease (admissions l) (λ a m q. omega (arith, n.known a m)))) (λ m. n.last i);
-              home = λ i. at_set none (OnAxis i) b.leases axis (some x) i (λ e. sym e) (λ m. n.home i);
+              home = λ i. at_set None (OnAxis i) b.leases axis (Some x) i (λ e. sym e) (λ m. n.home i);
             };
         ordered = f.ordered;
         counts = receipts-kept r g.number k;
@@ -365,8 +367,8 @@ inv-granted s r request now l b g inside room free call h =
     )
   where
     more : (o : Option Lease) → bump b.next_lease ≡ b.next_lease + 1 → IdBelow b.next_lease o → IdBelow (bump b.next_lease) o
-    more none up k = tt
-    more (some y) up k = omega arith
+    more None up k = tt
+    more (Some y) up k = omega arith
 
 -- ---- a renewal: the same lease with another end
 
@@ -377,8 +379,8 @@ pub record Renewing (r : Receipt) (axis next : ℕ) : Type 0 where
   pub number : r.receipt_id ≡ next
 
 pub inv-renewed : (s : Start) (r : Receipt) (axis : ℕ) (renewal : Renewal) (x : Lease) (l : Log) (b : Book) → Renewing r axis b.next_receipt
-    → lease_at b axis ≡ some x → call_of l ≡ some (Renew renewal) → I s l b
-    → I s (Handed (ItemRecord r) ∷ l) (kept r (with_leases (set b.leases axis (some (extended renewal x))) b))
+    → lease_at b axis ≡ Some x → call_of l ≡ Some (Renew renewal) → I s l b
+    → I s (Handed (ItemRecord r) ∷ l) (kept r (with_leases (set b.leases axis (Some (extended renewal x))) b))
 unfolding executed reaching admissions admitting live holding recorded_on renewed_by until receipts_kept kept_with next_number counted kept with_next_receipt with_receipts with_leases extended
 inv-renewed s r axis renewal x l b g at call h =
     let f = h.0 in
@@ -392,16 +394,16 @@ inv-renewed s r axis renewal x l b g at call h =
         capabilities = f.capabilities;
         leasing =
             record {
-              eight = length-set b.leases axis (some v) ∙ n.eight;
+              eight = length-set b.leases axis (Some v) ∙ n.eight;
               fits = n.fits;
-              below = λ i. at_set none (IdBelow b.next_lease) b.leases axis (some v) i (λ e. below_at _ _ x at (n.below axis)) (λ m. n.below i);
+              below = λ i. at_set None (IdBelow b.next_lease) b.leases axis (Some v) i (λ e. below_at _ _ x at (n.below axis)) (λ m. n.below i);
               unique = unique-same b.leases axis x v at refl n.unique;
-              stands = λ i. at_set none (λ o. recorded_on i r (call_of l) (live i l) ≡ held o) b.leases axis (some v) i
+              stands = λ i. at_set None (λ o. recorded_on i r (call_of l) (live i l) ≡ held o) b.leases axis (Some v) i
                   (λ e. rw (g.control, eq-eqb _ _ (g.on ∙ sym e), g.no-grant, call) (rw (e, n.stands axis, at)))
                   (λ m. rw g.control (other i (eqb r.resource i) refl m));
               known = n.known;
-              last = λ i. at_set none (LastIs (admissions l)) b.leases axis (some v) i (λ e. last-at _ _ x at (n.last axis)) (λ m. n.last i);
-              home = λ i. at_set none (OnAxis i) b.leases axis (some v) i (λ e. home_at _ _ x at (n.home axis) ∙ sym e) (λ m. n.home i);
+              last = λ i. at_set None (LastIs (admissions l)) b.leases axis (Some v) i (λ e. last-at _ _ x at (n.last axis)) (λ m. n.last i);
+              home = λ i. at_set None (OnAxis i) b.leases axis (Some v) i (λ e. home_at _ _ x at (n.home axis) ∙ sym e) (λ m. n.home i);
             };
         ordered = f.ordered;
         counts = receipts-kept r g.number k;
@@ -417,9 +419,9 @@ inv-renewed s r axis renewal x l b g at call h =
     same : (i : ℕ) → eqb r.resource i ≡ true → i ≡ axis
     same i e = sym (eqb-true _ _ e) ∙ g.on
 
-    other : (i : ℕ) (t : Bool) → eqb r.resource i ≡ t → (i ≡ axis → get_or b.leases i none ≡ none)
-        → cond t (cond (is_grant r) (tenancy_of r.lease_id (call_of l)) (renewed_by (call_of l) (live i l))) (live i l) ≡ held (get_or b.leases i none)
-    other i true e m = absurd (none-ne-some _ (sym (m (same i e)) ∙ ap (λ (j : ℕ). get_or b.leases j none) (same i e) ∙ at))
+    other : (i : ℕ) (t : Bool) → eqb r.resource i ≡ t → (i ≡ axis → get_or b.leases i None ≡ None)
+        → cond t (cond (is_grant r) (tenancy_of r.lease_id (call_of l)) (renewed_by (call_of l) (live i l))) (live i l) ≡ held (get_or b.leases i None)
+    other i true e m = absurd (none-some _ (sym (m (same i e)) ∙ ap (λ (j : ℕ). get_or b.leases j None) (same i e) ∙ at))
     other i false e m = h.0.leasing.stands i
 
 -- ---- an order is admitted as its first observe item is handed out
@@ -428,7 +430,7 @@ inv-renewed s r axis renewal x l b g at call h =
 pub record Passed (o : Submission) (c : Capability) (x : Lease) (b : Book) : Type 0 where
   pub boot : o.action.boot_id ≡ b.boot_id
   pub inside : c.resource < 8
-  pub leased : lease_at b c.resource ≡ some x
+  pub leased : lease_at b c.resource ≡ Some x
   pub lease : x.id ≡ o.action.lease_id
   pub above : x.last_sequence < o.action.sequence
   pub unused : (e : Replay) → Mem e b.replay → e.owner ≡ o.principal → e.action_id ≢ o.action.action_id
@@ -471,7 +473,7 @@ orders-admitted s E A es o n unused f =
         unused r.0 r.1 (ap (λ (z : Name). z.owner) (sym r.2)) (ap (λ (z : Name). z.action) (sym r.2))
 
 pub inv-admitted : (s : Start) (o : Submission) (c : Capability) (x : Lease) (l : Log) (b : Book) → Passed o c x b
-    → call_of l ≡ some (Submit o) → observing l ≡ false → Observing s l c.resource → I s l b
+    → call_of l ≡ Some (Submit o) → observing l ≡ false → Observing s l c.resource → I s l b
     → I s (Handed (ItemObserve c.resource) ∷ l) (consumed c x o b)
 unfolding seen_raise flags_of stops in_force falls_for bumps bumps_at executed reaching admissions admitting submission_in live holding receipts_kept kept_with next_number counted consumed with_replay with_leases with_sequence
 inv-admitted s o c x l b p call unseen carry h =
@@ -489,16 +491,16 @@ inv-admitted s o c x l b p call unseen carry h =
             capabilities = f.capabilities;
             leasing =
                 record {
-                  eight = length-set b.leases axis (some v) ∙ n.eight;
+                  eight = length-set b.leases axis (Some v) ∙ n.eight;
                   fits = n.fits;
-                  below = λ i. at_set none (IdBelow b.next_lease) b.leases axis (some v) i (λ e. below_at _ _ x p.leased (n.below axis)) (λ m. n.below i);
+                  below = λ i. at_set None (IdBelow b.next_lease) b.leases axis (Some v) i (λ e. below_at _ _ x p.leased (n.below axis)) (λ m. n.below i);
                   unique = unique-same b.leases axis x v p.leased refl n.unique;
-                  stands = λ i. at_set none (λ y. live i l ≡ held y) b.leases axis (some v) i (λ e. rw e (n.stands axis ∙ ap held p.leased)) (λ m. n.stands i);
+                  stands = λ i. at_set None (λ y. live i l ≡ held y) b.leases axis (Some v) i (λ e. rw e (n.stands axis ∙ ap held p.leased)) (λ m. n.stands i);
                   known = known (below_at _ _ x p.leased (n.below axis));
-                  last = λ i. at-set-in none (LastIs (a ∷ admissions l)) b.leases axis (some v) i (omega (arith, n.eight, p.inside))
+                  last = λ i. at-set-in None (LastIs (a ∷ admissions l)) b.leases axis (Some v) i (omega (arith, n.eight, p.inside))
                       (λ e. highest-new a (admissions l) x.id (sym p.lease) (omega (arith, p.above, last-at _ _ x p.leased (n.last axis))))
-                      (λ d. older i d (get_or b.leases i none) refl (n.last i));
-                  home = λ i. at_set none (OnAxis i) b.leases axis (some v) i (λ e. home_at _ _ x p.leased (n.home axis) ∙ sym e) (λ m. n.home i);
+                      (λ d. older i d (get_or b.leases i None) refl (n.last i));
+                  home = λ i. at_set None (OnAxis i) b.leases axis (Some v) i (λ e. home_at _ _ x p.leased (n.home axis) ∙ sym e) (λ m. n.home i);
                 };
             ordered = rw f.counts.next es;
             counts = f.counts;
@@ -511,10 +513,10 @@ inv-admitted s o c x l b p call unseen carry h =
     known k y (inl e) = omega (arith, ap (λ (z : Admitted). z.submission.action.lease_id) e, p.lease)
     known k y (inr m) = h.0.leasing.known y m
 
-    older : (i : ℕ) → i ≢ c.resource → (y : Option Lease) → get_or b.leases i none ≡ y → LastIs (admissions l) y
+    older : (i : ℕ) → i ≢ c.resource → (y : Option Lease) → get_or b.leases i None ≡ y → LastIs (admissions l) y
         → LastIs (admitted_as (next_number l) o ∷ admissions l) y
-    older i n none e k = tt
-    older i n (some y) e k =
+    older i n None e k = tt
+    older i n (Some y) e k =
         k ∙ sym (highest-other (admitted_as (next_number l) o) (admissions l) y.id
         (λ q. n (h.0.leasing.unique i c.resource y x e p.leased (sym q ∙ sym p.lease))))
 
@@ -542,7 +544,7 @@ fresh s o c x l b p h m =
     let le' : q.0.submission.action.sequence ≤ highest x.id (admissions l) = subst (λ n. q.0.submission.action.sequence ≤ highest n (admissions l)) id le in
     omega (arith, last-at _ _ x p.leased (f.leasing.last c.resource), p.above, ap (λ (y : Action). y.sequence) same)
 
-pub inv-executed : (s : Start) (o : Submission) (c : ℕ) (ps : List ℤ) (l : Log) (b : Book) → call_of l ≡ some (Submit o)
+pub inv-executed : (s : Start) (o : Submission) (c : ℕ) (ps : List ℤ) (l : Log) (b : Book) → call_of l ≡ Some (Submit o)
     → o.action.boot_id ≡ s.boot_id → ¬ Mem o.action (orders (executed l))
     → (a : Admitted) × Mem a (admissions l) × (a.submission ≡ o)
     → Proper s (Handed (ItemExecute c ps) ∷ l) c ps → I s l b → I s (Handed (ItemExecute c ps) ∷ l) b
@@ -580,7 +582,7 @@ inv-executed s o c ps l b call boot new admitted proper h =
 
 -- ---- the opening book
 
-plain-call : (l : Log) → Plain l → call_of l ≡ none
+plain-call : (l : Log) → Plain l → call_of l ≡ None
 unfolding call_of
 plain-call [] h = refl
 plain-call (Took c ∷ l) h = absurd h
@@ -603,7 +605,7 @@ plain-executed (Handed (ItemRecord r) ∷ l) h = absurd h
 plain-executed (Ended a ∷ l) h = absurd h
 
 abbrev no-tenant : Option Lease
-no-tenant = none
+no-tenant = None
 
 -- no lease stands in the opening book
 no-lease : (n i : ℕ) → get_or (replicate n (no-tenant)) i no-tenant ≡ no-tenant
@@ -612,7 +614,7 @@ no-lease (suc n) zero = refl
 no-lease (suc n) (suc i) = no-lease n i
 
 -- a startup fallback changes nothing
-inv-startup : (s : Start) (axis : ℕ) (reason : Reason) (l : Log) → call_of l ≡ none → I s l (opening s)
+inv-startup : (s : Start) (axis : ℕ) (reason : Reason) (l : Log) → call_of l ≡ None → I s l (opening s)
     → I s (Handed (ItemFallback axis reason) ∷ l) (opening s)
 unfolding executed reaching admissions admitting live holding receipts_kept kept_with next_number counted opening
 inv-startup s axis reason l call h =
@@ -630,11 +632,11 @@ inv-startup s axis reason l call h =
       epochs-startup s axis reason l (opening s) call h.2,
     )
   where
-    ended : (t : Bool) (o : Option Tenancy) → o ≡ none → cond t none o ≡ o
+    ended : (t : Bool) (o : Option Tenancy) → o ≡ None → cond t None o ≡ o
     ended true o e = sym e
     ended false o e = refl
 
-pub inv-opening : (s : Start) (l : Log) → Plain l → refused_start s ≡ none → I s l (opening s)
+pub inv-opening : (s : Start) (l : Log) → Plain l → refused_start s ≡ None → I s l (opening s)
 unfolding executed admissions live receipts_kept next_number seen_raise flags_of bumps opening
 inv-opening s [] plain e = (
   record {
@@ -647,7 +649,7 @@ inv-opening s [] plain e = (
           eight = refl;
           fits = omega arith;
           below = λ i. rw (no-lease 8 i) tt;
-          unique = λ i j x y p q. absurd (none-ne-some _ (sym (no-lease 8 i) ∙ p));
+          unique = λ i j x y p q. absurd (none-some _ (sym (no-lease 8 i) ∙ p));
           stands = λ i. sym (ap held (no-lease 8 i));
           known = λ a m. absurd m;
           last = λ i. rw (no-lease 8 i) tt;

@@ -4,7 +4,9 @@ use Prim.Native.Nat.{ℕ, zero, suc, ◌-◌, ◌<◌, ◌≤◌}
 use mathlib.Core.Bool.{Bool, true, false, cond, ◌&&◌, ◌||◌, false≢true}
 use mathlib.Core.List.{List, [], ◌∷◌, reverse, reverse_aux}
 use mathlib.Core.Logic.{inl, inr, ◌≢◌}
-use mathlib.Core.Option.{Option, some, none, some-ne-none, none-ne-some, some-injective}
+use Rattle.std.specs.Prelude.{Option, Some, None}
+use Rattle.std.proofs.lemmas.Option.{none-some}
+use Rattle.model.proofs.Options.{some-ne-none, some-injective}
 use mathlib.Core.Path.{◌≡◌, refl, sym, ap, ◌∙◌, subst}
 use native.Mathlib.Omega.{arith}
 use borrow.Author.Tests.{leb-false, eqb-false}
@@ -155,8 +157,8 @@ Guarded P b = is_ready b.state ≡ true → P b
 
 -- what a tick leaves: a lease number to give, the time of the tick, and no expired lease on the axes looked at
 unfoldable pub Unexpired : ℕ → Option Lease → Type 0
-Unexpired now none = Unit
-Unexpired now (some x) = now < x.expires_at
+Unexpired now None = Unit
+Unexpired now (Some x) = now < x.expires_at
 
 pub record Settled (now : ℕ) (done : List ℕ) (b : Book) : Type 0 where
   pub left : b.next_lease < top
@@ -172,9 +174,9 @@ settled-cleared : (now : ℕ) (d : List ℕ) (axis : ℕ) (b : Book) → Settled
 unfolding cleared bump_epoch with_epoch with_leases with_active Unexpired
 settled-cleared now d axis b h = record { left = h.left; clock = h.clock; fresh = fresh }
   where
-    fresh : (i : ℕ) → Mem i (axis ∷ d) → Unexpired now (get_or (set b.leases axis none) i none)
-    fresh i (inl e) = at_set none (Unexpired now) b.leases axis none i (λ e'. tt) (λ m. rw (m e) tt)
-    fresh i (inr n) = at_set none (Unexpired now) b.leases axis none i (λ e'. tt) (λ m. h.fresh i n)
+    fresh : (i : ℕ) → Mem i (axis ∷ d) → Unexpired now (get_or (set b.leases axis None) i None)
+    fresh i (inl e) = at_set None (Unexpired now) b.leases axis None i (λ e'. tt) (λ m. rw (m e) tt)
+    fresh i (inr n) = at_set None (Unexpired now) b.leases axis None i (λ e'. tt) (λ m. h.fresh i n)
 
 settled-lasts : (now : ℕ) (d : List ℕ) → Lasts (Settled now d)
 unfolding kept with_next_receipt with_receipts
@@ -188,18 +190,18 @@ settled-refreshed : (now : ℕ) (d : List ℕ) (b : Book) → Settled now d b �
 unfolding refresh_state with_state
 settled-refreshed now d b h = record { left = h.left; clock = h.clock; fresh = h.fresh }
 
-not-due : (now : ℕ) (lease : Option Lease) (active : Option Active) → due now lease active ≡ none → Unexpired now lease
+not-due : (now : ℕ) (lease : Option Lease) (active : Option Active) → due now lease active ≡ None → Unexpired now lease
 unfolding due holds_of Unexpired
-not-due now none active e = tt
-not-due now (some x) active e = go (leb x.expires_at now) refl e
+not-due now None active e = tt
+not-due now (Some x) active e = go (leb x.expires_at now) refl e
   where
     go : (t : Bool) → leb x.expires_at now ≡ t
-        → cond t (some Reason.LeaseExpired) (cond (holds_of active (λ a. leb a.expires_at now)) (some Reason.StreamExpired) none) ≡ none
+        → cond t (Some Reason.LeaseExpired) (cond (holds_of active (λ a. leb a.expires_at now)) (Some Reason.StreamExpired) None) ≡ None
         → now < x.expires_at
     go true h e = absurd (some-ne-none _ e)
     go false h e = leb-false _ _ h
 
-settled-next : (now : ℕ) (d : List ℕ) (axis : ℕ) (b : Book) → due now (lease_at b axis) (active_at b axis) ≡ none → Settled now d b → Settled now (axis ∷ d) b
+settled-next : (now : ℕ) (d : List ℕ) (axis : ℕ) (b : Book) → due now (lease_at b axis) (active_at b axis) ≡ None → Settled now d b → Settled now (axis ∷ d) b
 settled-next now d axis b e h = record { left = h.left; clock = h.clock; fresh = fresh }
   where
     fresh : (i : ℕ) → Mem i (axis ∷ d) → Unexpired now (lease_at b i)
@@ -227,14 +229,14 @@ Unflagged reason = (eqb (number reason) (number Reason.Estop) || eqb (number rea
 abbrev pub OfTick : Reason → Type 0
 OfTick reason = (eqb (number reason) (number Reason.Clock) ≡ false) × Unflagged reason
 
-due-of-tick : (now : ℕ) (lease : Option Lease) (active : Option Active) (reason : Reason) → due now lease active ≡ some reason → OfTick reason
+due-of-tick : (now : ℕ) (lease : Option Lease) (active : Option Active) (reason : Reason) → due now lease active ≡ Some reason → OfTick reason
 unfolding due
 due-of-tick now lease active reason = go (holds_of lease (λ l. leb l.expires_at now)) (holds_of active (λ a. leb a.expires_at now))
   where
-    go : (t u : Bool) → cond t (some Reason.LeaseExpired) (cond u (some Reason.StreamExpired) none) ≡ some reason → OfTick reason
+    go : (t u : Bool) → cond t (Some Reason.LeaseExpired) (cond u (Some Reason.StreamExpired) None) ≡ Some reason → OfTick reason
     go true u e = subst OfTick (some-injective _ _ e) (refl, refl)
     go false true e = subst OfTick (some-injective _ _ e) (refl, refl)
-    go false false e = absurd (none-ne-some _ e)
+    go false false e = absurd (none-some _ e)
 
 module _ {Q : Reason → Type 0} {W J : Log → Book → Type 0} (D : Log → Book → Answer → Type 0) (k : Shared Q W J)
     (of-tick : (reason : Reason) → OfTick reason → Q reason)
@@ -276,8 +278,8 @@ module _ {Q : Reason → Type 0} {W J : Log → Book → Type 0} (D : Log → Bo
       → due now (lease_at b axis) (active_at b axis) ≡ o → G (Settled now d) l b
       → ((l' : Log) (b' : Book) → G (Settled now (axis ∷ d)) l' b' → Safe W D l' (next b')) → Safe W D l (fallback_if o axis now b next)
   unfolding fallback_if cleared bump_epoch with_epoch with_leases with_active
-  due-step none axis d l b next e h rest = rest l b (h.0, λ r. settled-next now d axis b e (h.1 r))
-  due-step (some reason) axis d l b next e h rest =
+  due-step None axis d l b next e h rest = rest l b (h.0, λ r. settled-next now d axis b e (h.1 r))
+  due-step (Some reason) axis d l b next e h rest =
       keeps-fallback-or-trip D (guarded (Settled now (axis ∷ d)) (settled-lasts now (axis ∷ d))) axis reason now l b next
       (of-tick Reason.Driver (refl, refl))
       (k.falls axis reason l b (of-tick reason (due-of-tick now _ _ reason e)) h.0, λ r. settled-cleared now d axis b (h.1 r)) rest

@@ -2,7 +2,7 @@
 use Prim.Native.Nat.{ℕ}
 use mathlib.Core.List.{List, [], ◌∷◌, ◌++◌, map, reverse}
 use mathlib.Core.Logic.{◌⊎◌, inl, inr}
-use mathlib.Core.Option.{some}
+use Rattle.std.specs.Prelude.{Some}
 use mathlib.Core.Path.{◌≡◌, refl, sym, ap, ◌∙◌, subst}
 use lib.IntN.{ℤ}
 use Rattle.model.specs.declared.Action.{Action}
@@ -30,10 +30,10 @@ split s l Gone h = inl h
 split s l (Idle b) h = inr (b, h)
 split s l (Waiting w) h = inr (wait_book w, at-wait (I s) (End s) l w h)
 
-pub holds : (s : Start) (h : History) (b : Book) → book_in (phase_after s h) ≡ some b → I s (log_of s h) b
+pub holds : (s : Start) (h : History) (b : Book) → book_in (phase_after s h) ≡ Some b → I s (log_of s h) b
 holds s h b e = shows s (I s) (End s) (log_of s h) (phase_after s h) b (invariant s h) e
 
-pub book-facts : (s : Start) (h : History) (b : Book) → book_in (phase_after s h) ≡ some b → BookFacts s (log_of s h) b
+pub book-facts : (s : Start) (h : History) (b : Book) → book_in (phase_after s h) ≡ Some b → BookFacts s (log_of s h) b
 book-facts s h b e =
     let k = holds s h b e in
     let f = k.0 in
@@ -88,7 +88,7 @@ proper s h c p e = let q = carried s h (Handed (ItemExecute c p)) (λ l k. k) (a
 pub only-submissions : (s : Start) (h : History) (c : ℕ) (p : List ℤ) → output_after s h ≡ Hands (ItemExecute c p) → Carried (log_of s h) c p
 only-submissions s h c p e = (proper s h c p e).0
 
-submit-same : {a b : Submission} → some (Submit a) ≡ some (Submit b) → a ≡ b
+submit-same : {a b : Submission} → Some (Submit a) ≡ Some (Submit b) → a ≡ b
 submit-same e = cc
 
 pub live-lease : (s : Start) (h : History) (c : ℕ) (p : List ℤ) → output_after s h ≡ Hands (ItemExecute c p)

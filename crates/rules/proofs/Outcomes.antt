@@ -4,7 +4,7 @@ use Prim.Native.Nat.{ℕ}
 use mathlib.Core.Bool.{Bool, true, false, cond}
 use mathlib.Core.List.{List, [], ◌∷◌, ◌++◌, cons≢nil}
 use mathlib.Core.Logic.{◌⊎◌, inl, inr}
-use mathlib.Core.Option.{Option, some, none}
+use Rattle.std.specs.Prelude.{Option, Some, None}
 use mathlib.Core.Path.{◌≡◌, refl}
 use native.Mathlib.Omega.{arith}
 use Rattle.model.specs.declared.Reason.TheVariants.{Startup}
@@ -83,8 +83,8 @@ module _ (W : Log → Book → Type 0) (D : Log → Book → Answer → Type 0) 
 
   brought-reading : (q : Reading) (o : Option Book) → Brought W D (shown q o)
   unfolding shown
-  brought-reading q none = tt
-  brought-reading q (some b) = tt
+  brought-reading q None = tt
+  brought-reading q (Some b) = tt
 
   -- an input that is not logged brings nothing
   silent : (x : Event) (o : Output) → handed o ++ (cond (took_effect o) (x ∷ []) [] ++ []) ≡ [] → Brought W D o
@@ -108,7 +108,7 @@ module _ (W : Log → Book → Type 0) (D : Log → Book → Answer → Type 0) 
 
 module _ (s : Start) (I W : Log → Book → Type 0) (D : Log → Book → Answer → Type 0)
     (ends : (l : Log) (b : Book) (a : Answer) → D l b a → I (Ended a ∷ l) b)
-    (opens : (l : Log) → Plain l → refused_start s ≡ none → I l (opening s))
+    (opens : (l : Log) → Plain l → refused_start s ≡ None → I l (opening s))
     (calls : (l : Log) (c : Call) (b : Book) → I l b → Safe W D (Took c ∷ l) (begin c b)) where
   awaited : (l : Log) (p : Phase) (r : Reply) (x : Item) (t u : Interaction) → Stands t p → Takes t r x u → SafePhase s I W D l p → Safe W D (Replied r ∷ l) u
   awaited l p r x t u at_observe (observed {o = o}) h = h.1 o
@@ -129,6 +129,6 @@ module _ (s : Start) (I W : Log → Book → Type 0) (D : Log → Book → Answe
   brings [] = go (refused_start s)
     where
       go : (r : Option ℕ) → Brought W D (start_unless r s).output
-      go (some n) = tt
-      go none = brought-start W D s (used_axes s.capabilities) true
+      go (Some n) = tt
+      go None = brought-start W D s (used_axes s.capabilities) true
   brings (i ∷ past) = brings-step (log_of s past) (phase_after s past) i (step (phase_after s past) i) (always s I W D ends opens calls past)

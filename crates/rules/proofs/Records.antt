@@ -3,7 +3,9 @@ use Prim.Native.Nat.{ℕ}
 use mathlib.Core.Bool.{Bool, true, false, cond, not, ◌&&◌}
 use mathlib.Core.List.{List, [], ◌∷◌, ◌++◌}
 use mathlib.Core.Logic.{◌≢◌, inl, inr, ⊎_elim}
-use mathlib.Core.Option.{some, none-ne-some, some-injective}
+use Rattle.std.specs.Prelude.{Some}
+use Rattle.std.proofs.lemmas.Option.{none-some}
+use Rattle.model.proofs.Options.{some-injective}
 use mathlib.Core.Path.{◌≡◌, refl, sym, ap, ◌∙◌, subst, subst⁻¹}
 use native.Mathlib.Omega.{arith}
 use borrow.Author.Tests.{eqb-true, eqb-false, eq-eqb, ne_eqb, leb-true, le-leb, not-true}
@@ -118,21 +120,21 @@ one_earlier d n k =
       first = λ x. ⊎_elim (λ e q. n (ap (λ (y : Capability). y.id) (sym e) ∙ q)) (k.first x);
     }
 
-pub named-with : (id : ℕ) (cs : List Capability) (c : Capability) → with_id id cs ≡ some c → Named id cs c
+pub named-with : (id : ℕ) (cs : List Capability) (c : Capability) → with_id id cs ≡ Some c → Named id cs c
 unfolding with_id
-named-with id [] c e = absurd (none-ne-some c e)
+named-with id [] c e = absurd (none-some c e)
 named-with id (d ∷ cs) c e = go (eqb d.id id) refl e (named-with id cs c)
   where
-    go : (t : Bool) → eqb d.id id ≡ t → cond t (some d) (with_id id cs) ≡ some c → (with_id id cs ≡ some c → Named id cs c) → Named id (d ∷ cs) c
+    go : (t : Bool) → eqb d.id id ≡ t → cond t (Some d) (with_id id cs) ≡ Some c → (with_id id cs ≡ Some c → Named id cs c) → Named id (d ∷ cs) c
     go true q e rest =
         let same : d ≡ c = some-injective _ _ e in
         subst (Named id (d ∷ cs)) same (record { earlier = []; later = cs; place = refl; own = eqb-true _ _ q; first = λ x m. absurd m })
     go false q e rest = one_earlier d (eqb-false _ _ q) (rest e)
 
-pub with-named : {id : ℕ} {cs : List Capability} {c : Capability} → Named id cs c → with_id id cs ≡ some c
+pub with-named : {id : ℕ} {cs : List Capability} {c : Capability} → Named id cs c → with_id id cs ≡ Some c
 unfolding with_id
 with-named {id} {cs} {c} k = ap (with_id id) k.place ∙ go k.earlier k.first
   where
-    go : (earlier : List Capability) → ((d : Capability) → Mem d earlier → d.id ≢ id) → with_id id (earlier ++ (c ∷ k.later)) ≡ some c
+    go : (earlier : List Capability) → ((d : Capability) → Mem d earlier → d.id ≢ id) → with_id id (earlier ++ (c ∷ k.later)) ≡ Some c
     go [] first = rw (eq-eqb c.id id k.own)
     go (d ∷ earlier) first = rw (ne_eqb d.id id (first d (inl refl))) (go earlier (λ x m. first x (inr m)))

@@ -1,10 +1,11 @@
 -- 01's table of refusals, of every start and history. Assumes nothing.
 use Prim.Native.Nat.{ℕ, zero, suc, ◌≤◌}
 use mathlib.Core.List.{List, [], ◌∷◌}
-use mathlib.Core.Option.{some, none}
+use Rattle.std.specs.Prelude.{Some, None}
 use mathlib.Core.Path.{◌≡◌, refl, ap, ◌∙◌}
 use native.Mathlib.Omega.{arith}
-use lib.ListN.{length, get_elem?, get_or-eq_default}
+use lib.ListN.{length, get_or-eq_default}
+use Rattle.std.specs.Prelude.{slice_get}
 use Rattle.rules.specs.Book.{Book, lease_at}
 use Rattle.rules.specs.Protocol.{ReadLease, ReadReceipt, OfLease, OfReceipt, Shows, Start, book_in, read}
 use Rattle.rules.specs.Log.{History, phase_after, took_effect}
@@ -18,10 +19,10 @@ use Rattle.rules.proofs.Rejected.{rejecting, rejected}
 
 -- ---- readings past the ends
 
-no-lease : (s : Start) (h : History) (b : Book) → book_in (phase_after s h) ≡ some b → (axis : ℕ) → 8 ≤ axis → lease_at b axis ≡ none
-no-lease s h b e axis past = get_or-eq_default b.leases none (omega (arith, (holds s h b e).0.leasing.eight))
+no-lease : (s : Start) (h : History) (b : Book) → book_in (phase_after s h) ≡ Some b → (axis : ℕ) → 8 ≤ axis → lease_at b axis ≡ None
+no-lease s h b e axis past = get_or-eq_default b.leases None (omega (arith, (holds s h b e).0.leasing.eight))
 
-past-last : {A : Type 0} (l : List A) (i : ℕ) → length l ≤ i → get_elem? l i ≡ none
+past-last : {A : Type 0} (l : List A) (i : ℕ) → length l ≤ i → slice_get l i ≡ None
 past-last [] i h = refl
 past-last (a ∷ l) zero h = absurd (omega arith)
 past-last (a ∷ l) (suc i) h = past-last l i (omega arith)

@@ -3,7 +3,7 @@ use Prim.Native.Nat.{ℕ, ◌-◌, ◌<◌, ◌≤◌}
 use mathlib.Core.Bool.{Bool, true, false, cond, ◌&&◌, ◌||◌, false≢true}
 use mathlib.Core.List.{List, [], ◌∷◌}
 use mathlib.Core.Logic.{◌⊎◌, inl, inr, ⊎_elim, ◌≢◌}
-use mathlib.Core.Option.{Option, some, none}
+use Rattle.std.specs.Prelude.{Option, Some, None}
 use mathlib.Core.Path.{◌≡◌, refl, sym, ap, ◌∙◌, subst}
 use borrow.Author.Tests.{ltb-true, leb-true}
 use lib.Dec.{ltb}
@@ -76,8 +76,8 @@ refused-grant : {rs : List Reply} {is : List Item} {reason : Reason} {b' : Book}
     → first_failing (acquire_checks q now b) ≡ f → Runs (grant f q now b) rs is (Done b' (Refused reason))
     → Unmoved (Acquire q now) reason b b' rs is
 unfolding grant leased record_receipt acquire_checks ready
-refused-grant (some why) q now b e w = unmoved (first-other Reason.Driver (acquire_checks q now b) why refl e) (why-acquire e) w
-refused-grant none q now b e w = absurd (false≢true (let e = (at-end (noted w).left).answer in cc))
+refused-grant (Some why) q now b e w = unmoved (first-other Reason.Driver (acquire_checks q now b) why refl e) (why-acquire e) w
+refused-grant None q now b e w = absurd (false≢true (let e = (at-end (noted w).left).answer in cc))
 
 authority : Reason.Authority ≢ Reason.Driver
 authority = other Reason.Driver Reason.Authority refl
@@ -86,15 +86,15 @@ authority = other Reason.Driver Reason.Authority refl
 never-refused : {A : Type 0} {rs : List Reply} {is : List Item} {reason : Reason} {b' : Book} (q : Renewal) (axis : Option ℕ) (l : Option Lease)
     (b : Book) → lease_on axis b ≡ l → is_some l ≡ true → Runs (extend q axis l b) rs is (Done b' (Refused reason)) → A
 unfolding extend leased record_receipt lease_on is_some
-never-refused q none l b e k w = absurd (false≢true (ap is_some e ∙ k))
-never-refused q (some axis) none b e k w = absurd (false≢true k)
-never-refused q (some axis) (some l) b e k w = absurd (false≢true (let e = (at-end (noted w).left).answer in cc))
+never-refused q None l b e k w = absurd (false≢true (ap is_some e ∙ k))
+never-refused q (Some axis) None b e k w = absurd (false≢true k)
+never-refused q (Some axis) (Some l) b e k w = absurd (false≢true (let e = (at-end (noted w).left).answer in cc))
 
 refused-renewal : {rs : List Reply} {is : List Item} {reason : Reason} {b' : Book} (f : Option Reason) (q : Renewal) (b : Book)
     → first_failing (renew_checks q b) ≡ f → Runs (renewed f q b) rs is (Done b' (Refused reason)) → Unmoved (Renew q) reason b b' rs is
 unfolding renewed renew_checks ready held_lease
-refused-renewal (some why) q b e w = unmoved (first-other Reason.Driver (renew_checks q b) why refl e) (why-renew e) w
-refused-renewal none q b e w =
+refused-renewal (Some why) q b e w = unmoved (first-other Reason.Driver (renew_checks q b) why refl e) (why-renew e) w
+refused-renewal None q b e w =
     never-refused q (held_axis q.owner q.lease_id b) _ b refl (none-fails (renew_checks q b) e).1.1.1.1.1.0 w
 
 -- ---- fallbacks
@@ -223,8 +223,8 @@ refused-cancel : {rs : List Reply} {is : List Item} {reason : Reason} {b' : Book
     → held_axis owner id b ≡ axis → (LeaseStands b → b.state ≡ State.Armed) → Runs (canceled axis now b) rs is (Done b' (Refused reason))
     → Unmoved (Cancel owner id now) reason b b' rs is ⊎ Failed Reason.Driver reason b b' rs is
 unfolding held_axis canceled
-refused-cancel none owner id now b e armed w = inl (unmoved authority (why-cancel e) w)
-refused-cancel {rs} {is} {reason} {b'} (some axis) owner id now b e armed w =
+refused-cancel None owner id now b e armed w = inl (unmoved authority (why-cancel e) w)
+refused-cancel {rs} {is} {reason} {b'} (Some axis) owner id now b e armed w =
     let k = fell axis Reason.Canceled now b _ w in inr (go k k.ok k.replies k.left)
   where
     next : Bool → Book → Interaction
@@ -253,7 +253,7 @@ record RefusedAs (x : Exchange) (before : Book) (reason : Reason) (after : Book)
   ticked : Ticked now before x book
   left : Remains x.call reason book after ticked.later ticked.later_items
 
-module _ (s : Start) (h : History) (x : Exchange) (before : Book) (f : book_before s h ≡ some before) (reason : Reason) (after : Book) where
+module _ (s : Start) (h : History) (x : Exchange) (before : Book) (f : book_before s h ≡ Some before) (reason : Reason) (after : Book) where
   -- after the tick the runtime is Armed where a lease stands
   armed : {is : List Item} {v : Interaction} {now : ℕ} {next : Book → Interaction} (o : Opened now before next x.replies is v)
       → LeaseStands o.book → o.book.state ≡ State.Armed
@@ -284,7 +284,7 @@ module _ (s : Start) (h : History) (x : Exchange) (before : Book) (f : book_befo
       (λ o. rw e (⊎_elim inl (λ k. inr (Reason.Recovered, by-recover, k)) (refused-recovery now o.book o.left)))
 
 module _ (s : Start) (h : History) (x : Exchange) (before : Book) (reason : Reason) (out : output_after s h ≡ Answers (Refused reason))
-    (e : current (log_of s h) ≡ some x) (f : book_before s h ≡ some before) where
+    (e : current (log_of s h) ≡ Some x) (f : book_before s h ≡ Some before) where
   at : EndedAt before x (Refused reason) (phase_after s h)
   at = ended s h x before e f (Refused reason) out
 
@@ -294,7 +294,7 @@ module _ (s : Start) (h : History) (x : Exchange) (before : Book) (reason : Reas
       refused_as s h x before f reason at.book x.call k.0 k.1 refl at.run
 
 pub refused-call : (s : Start) (h : History) (x : Exchange) (b : Book) (reason : Reason) → output_after s h ≡ Answers (Refused reason)
-    → current (log_of s h) ≡ some x → book_before s h ≡ some b → reason ≢ Reason.Driver → LeftAsTicked s h x b reason
+    → current (log_of s h) ≡ Some x → book_before s h ≡ Some b → reason ≢ Reason.Driver → LeftAsTicked s h x b reason
 refused-call s h x b reason out e f n = go k.left
   where
     k : RefusedAs x b reason (at s h x b reason out e f).book
@@ -316,7 +316,7 @@ refused-call s h x b reason out e f n = go k.left
     go (inr m) = absurd (n m.2.driver)
 
 pub refused-driver : (s : Start) (h : History) (x : Exchange) (b : Book) → output_after s h ≡ Answers (Refused Reason.Driver)
-    → current (log_of s h) ≡ some x → book_before s h ≡ some b → LeftFaulted s h x b
+    → current (log_of s h) ≡ Some x → book_before s h ≡ Some b → LeftFaulted s h x b
 unfolding book_in
 refused-driver s h x b out e f = go k.left
   where

@@ -3,7 +3,7 @@ use Prim.Native.Nat.{ℕ}
 use mathlib.Core.Bool.{Bool, true, false, cond, ◌&&◌, false≢true}
 use mathlib.Core.List.{List, [], ◌∷◌, ◌++◌, append_assoc}
 use mathlib.Core.Logic.{◌⊎◌, inl, inr}
-use mathlib.Core.Option.{Option, some, none}
+use Rattle.std.specs.Prelude.{Option, Some, None}
 use mathlib.Core.Path.{◌≡◌, refl, sym, ap, ◌∙◌, subst}
 use borrow.Author.Tests.{leb-true, le-leb}
 use lib.Dec.{leb}
@@ -60,17 +60,17 @@ rejected-in b r =
     }
 
 -- the reason is that of the first check that fails: where none fails the order is admitted
-rejected-by : (o : Submission) (b : Book) (reason : Reason) → validate o b ≡ Rejects reason → first_failing (admission o b) ≡ some reason
+rejected-by : (o : Submission) (b : Book) (reason : Reason) → validate o b ≡ Rejects reason → first_failing (admission o b) ≡ Some reason
 unfolding validate verdict
 rejected-by o b reason e = go (first_failing (admission o b)) refl e
   where
-    go : (f : Option Reason) → first_failing (admission o b) ≡ f → verdict f (order_capability o b) (order_lease o b) ≡ Rejects reason → f ≡ some reason
-    go none q d = absurd (false≢true (let k = admits o b ((admitted-exactly o b).0 q) in cc))
-    go (some why) q d = cc
+    go : (f : Option Reason) → first_failing (admission o b) ≡ f → verdict f (order_capability o b) (order_lease o b) ≡ Rejects reason → f ≡ Some reason
+    go None q d = absurd (false≢true (let k = admits o b ((admitted-exactly o b).0 q) in cc))
+    go (Some why) q d = cc
 
 -- while the receipt is awaited: it is the first item after the tick
 record Awaits (o : Submission) (b : Book) (r : Receipt) (rs : List Reply) (is : List Item) (b' : Book) : Type 0 where
-  why : first_failing (admission o b) ≡ some r.reason
+  why : first_failing (admission o b) ≡ Some r.reason
   rejected : Rejected b r b'
   nothing : is ≡ []
 
@@ -120,7 +120,7 @@ blown {rs} {is} {after} now r b w = go (leb b.config.invalid_limit b.invalid_cou
 
 -- at the end: the receipt was the first item after the tick
 record EndsSo (o : Submission) (r : Receipt) (b : Book) (rs : List Reply) (is : List Item) (after : Book) : Type 0 where
-  why : first_failing (admission o b) ≡ some r.reason
+  why : first_failing (admission o b) ≡ Some r.reason
   book : Book
   rejected : Rejected b r book
   replies : List Reply
@@ -130,7 +130,7 @@ record EndsSo (o : Submission) (r : Receipt) (b : Book) (rs : List Reply) (is : 
   left : Blown o.now r book replies items after
 
 counts : {rs : List Reply} {is : List Item} {r : Receipt} {after : Book} (o : Submission) (r' : Receipt) (b : Book)
-    → first_failing (admission o b) ≡ some r'.reason → Runs (storm o.now r' (kept r' (counted b))) rs is (Done after (Submitted r))
+    → first_failing (admission o b) ≡ Some r'.reason → Runs (storm o.now r' (kept r' (counted b))) rs is (Done after (Submitted r))
     → EndsSo o r b (Recorded ∷ rs) (ItemRecord r' ∷ is) after
 counts {rs} {is} {r} {after} o r' b why w =
     let answer = storm-answers o.now r' (kept r' (counted b)) w in
@@ -160,8 +160,8 @@ ends-reject (Rejects reason) o b q e (then recorded w) = counts o _ b (rejected-
 -- ---- after every history
 
 pub rejecting : (s : Start) (h : History) (x : Exchange) (b : Book) (r : Receipt) → output_after s h ≡ Hands (ItemRecord r)
-    → r.decision ≡ Decision.Rejected → current (log_of s h) ≡ some x → book_before s h ≡ some b
-    → (k : Counted x b r) × (book_in (phase_after s h) ≡ some k.counted)
+    → r.decision ≡ Decision.Rejected → current (log_of s h) ≡ Some x → book_before s h ≡ Some b
+    → (k : Counted x b r) × (book_in (phase_after s h) ≡ Some k.counted)
 unfolding items_at book_in wait_book
 rejecting s h x b r out d e f =
     let last : List Item = ItemRecord r ∷ [] in
@@ -187,7 +187,7 @@ rejecting s h x b r out d e f =
     )
 
 pub rejected : (s : Start) (h : History) (x : Exchange) (b : Book) (r : Receipt) → output_after s h ≡ Answers (Submitted r)
-    → r.decision ≡ Decision.Rejected → current (log_of s h) ≡ some x → book_before s h ≡ some b
+    → r.decision ≡ Decision.Rejected → current (log_of s h) ≡ Some x → book_before s h ≡ Some b
     → (k : Counted x b r) × (after : Book) × (phase_after s h ≡ Idle after) × (Calm x b r k after ⊎ Stormed x b r k after)
 rejected s h x b r out d e f = (k, at.book, at.idle, go c.left)
   where

@@ -3,7 +3,7 @@ use Prim.Native.Nat.{ℕ, ◌+◌, ◌<◌, ◌≤◌}
 use mathlib.Core.Bool.{Bool, true, false, cond, false≢true, true≢false}
 use mathlib.Core.List.{List, [], ◌∷◌, ◌++◌, append-nil}
 use mathlib.Core.Logic.{◌⊎◌, inl, inr, ⊎_elim}
-use mathlib.Core.Option.{Option, some, none}
+use Rattle.std.specs.Prelude.{Option, Some, None}
 use mathlib.Core.Path.{◌≡◌, refl, sym, ap, ◌∙◌, subst}
 use native.Mathlib.Omega.{arith}
 use Rattle.model.specs.declared.Receipt.{Receipt}
@@ -174,8 +174,8 @@ unfolding log_of phase_after start start_unless
 standing s [] = go (refused_start s)
   where
     go : (o : Option ℕ) → Standing (handed (start_unless o s).output) (start_unless o s).phase
-    go (some n) = tt
-    go none = rw append-nil at (start-on s (used_axes s.capabilities) true [])
+    go (Some n) = tt
+    go None = rw append-nil at (start-on s (used_axes s.capabilities) true [])
 standing s (i ∷ h) = standing-step (log_of s h) (phase_after s h) i (step (phase_after s h) i) (standing s h)
 
 -- a start answers no call
@@ -200,8 +200,8 @@ unfolding start start_unless
 start-answers s a e = go (refused_start s) e
   where
     go : (o : Option ℕ) → (start_unless o s).output ≡ Answers a → ⊥
-    go (some n) e = subst IsAnswer (sym e) tt
-    go none e = no_answer s (used_axes s.capabilities) true a e
+    go (Some n) e = subst IsAnswer (sym e) tt
+    go None e = no_answer s (used_axes s.capabilities) true a e
 
 -- an answer ends a call in hand
 ends_open : (l : Log) (p : Phase) (i : Input) → Step p i → Standing l p → (a : Answer) → (react p i).output ≡ Answers a
@@ -237,7 +237,7 @@ since-item r (Handed (ItemFallback axis q) ∷ l) m = ⊎_elim (λ e. absurd (fa
 since-item r (Handed (ItemRecord q) ∷ l) m = ⊎_elim (λ e. inl (cc)) (λ k. inr (since-item r l k)) (new-or-before _ _ (current l) m)
 since-item r (Ended a ∷ l) m = since-item r l m
 
-open-call : (l : Log) → Open l → (x : Exchange) × (current l ≡ some x)
+open-call : (l : Log) → Open l → (x : Exchange) × (current l ≡ Some x)
 unfolding current with_reply with_item
 open-call [] o = absurd o
 open-call (Took c ∷ l) o = (_, refl)

@@ -2,7 +2,9 @@
 use Prim.Native.Nat.{ℕ}
 use mathlib.Core.Bool.{Bool, true, false}
 use mathlib.Core.List.{List, [], ◌∷◌, ◌++◌, append-nil}
-use mathlib.Core.Option.{Option, some, none, none-ne-some, some-injective}
+use Rattle.std.specs.Prelude.{Option, Some, None}
+use Rattle.std.proofs.lemmas.Option.{none-some}
+use Rattle.model.proofs.Options.{some-injective}
 use mathlib.Core.Path.{◌≡◌, refl, subst}
 use Rattle.model.specs.declared.Observation.{Observation}
 use Rattle.rules.specs.Book.{Book}
@@ -44,7 +46,7 @@ SafeWait W D l (OnRecord r b k) = W l b × Safe W D (Replied Recorded ∷ l) k
 
 -- `I` holds where the runtime is idle, `W` where it waits, and both along the rest of the call
 abbrev pub SafePhase : Start → (Log → Book → Type 0) → (Log → Book → Type 0) → (Log → Book → Answer → Type 0) → Log → Phase → Type 0
-SafePhase s I W D l (Starting own axis rest good) = (own ≡ s) × (Plain l × (refused_start s ≡ none))
+SafePhase s I W D l (Starting own axis rest good) = (own ≡ s) × (Plain l × (refused_start s ≡ None))
 SafePhase s I W D l Gone = Plain l
 SafePhase s I W D l (Idle b) = I l b
 SafePhase s I W D l (Waiting w) = SafeWait W D l w
@@ -59,7 +61,7 @@ at-wait W D l (OnRecord r b k) h = h.0
 -- what holds at the opening, and along every call, holds after every history
 module _ (s : Start) (I W : Log → Book → Type 0) (D : Log → Book → Answer → Type 0)
     (ends : (l : Log) (b : Book) (a : Answer) → D l b a → I (Ended a ∷ l) b)
-    (opens : (l : Log) → Plain l → refused_start s ≡ none → I l (opening s))
+    (opens : (l : Log) → Plain l → refused_start s ≡ None → I l (opening s))
     (calls : (l : Log) (c : Call) (b : Book) → I l b → Safe W D (Took c ∷ l) (begin c b)) where
   enter : (l : Log) (t : Interaction) → Safe W D l t → SafePhase s I W D (event_at t ++ l) (proceed t).phase
   unfolding event_at proceed
@@ -75,7 +77,7 @@ module _ (s : Start) (I W : Log → Book → Type 0) (D : Log → Book → Answe
   answer p r x t u l at_fallback (fell_back {ok = ok}) h = h.1 ok
   answer p r x t u l at_record recorded h = h.1
 
-  start-on : (l : Log) (axes : List ℕ) (good : Bool) → Plain l → refused_start s ≡ none
+  start-on : (l : Log) (axes : List ℕ) (good : Bool) → Plain l → refused_start s ≡ None
       → SafePhase s I W D (handed (start_from s axes good).output ++ l) (start_from s axes good).phase
   unfolding start_from handed
   start-on l (axis ∷ rest) good h sound = (refl, (h, sound))
@@ -98,15 +100,15 @@ module _ (s : Start) (I W : Log → Book → Type 0) (D : Log → Book → Answe
   always [] = go (refused_start s) refl
     where
       go : (r : Option ℕ) → refused_start s ≡ r → SafePhase s I W D (handed (start_unless r s).output) (start_unless r s).phase
-      go (some n) e = tt
-      go none e = rw append-nil at (start-on [] (used_axes s.capabilities) true tt e)
+      go (Some n) e = tt
+      go None e = rw append-nil at (start-on [] (used_axes s.capabilities) true tt e)
   always (i ∷ past) = safe-step (log_of s past) (phase_after s past) i (step (phase_after s past) i) (always past)
 
 -- the invariant at the book that a reading shows
 pub shows : (s : Start) (I : Log → Book → Type 0) (D : Log → Book → Answer → Type 0) (l : Log) (p : Phase) (b : Book) → SafePhase s I I D l p
-    → book_in p ≡ some b → I l b
+    → book_in p ≡ Some b → I l b
 unfolding book_in
-shows s I D l (Starting own axis rest good) b h e = absurd (none-ne-some _ e)
-shows s I D l Gone b h e = absurd (none-ne-some _ e)
+shows s I D l (Starting own axis rest good) b h e = absurd (none-some _ e)
+shows s I D l Gone b h e = absurd (none-some _ e)
 shows s I D l (Idle a) b h e = subst (λ x. I l x) (some-injective _ _ e) h
 shows s I D l (Waiting w) b h e = subst (λ x. I l x) (some-injective _ _ e) (at-wait I D l w h)

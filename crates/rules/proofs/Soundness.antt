@@ -3,7 +3,9 @@ use Prim.Native.Nat.{ℕ, ◌≤◌}
 use mathlib.Core.Bool.{Bool, true, false, cond, not, ◌||◌, false≢true}
 use mathlib.Core.List.{List, [], ◌∷◌, ◌++◌, append-nil, append_assoc}
 use mathlib.Core.Logic.{◌≢◌, ◌⊎◌, inl, inr, ⊎_elim}
-use mathlib.Core.Option.{some, none, none-ne-some, some-injective}
+use Rattle.std.specs.Prelude.{Some, None}
+use Rattle.std.proofs.lemmas.Option.{none-some}
+use Rattle.model.proofs.Options.{some-injective}
 use mathlib.Core.Path.{◌≡◌, refl, sym, ap, ◌∙◌, subst}
 use native.Mathlib.Omega.{arith}
 use borrow.Author.Tests.{eqb-true, eqb-false, eq-eqb, ne_eqb, ltb-true, ltb-false, le-ltb, not-false}
@@ -80,7 +82,7 @@ one_more cs c h own new = record { each = λ d m. ⊎_elim (h.each d) last (mem-
         (λ m. ⊎_elim d.0 (eqb-false _ _ n.0) (ids-snoc cs x.id m), apart cs d.1 n.1)
 
 -- records that pass, after sound ones, are sound
-passed : (earlier cs : List Capability) → SoundRecords earlier → refused_record earlier cs ≡ none → SoundRecords (earlier ++ cs)
+passed : (earlier cs : List Capability) → SoundRecords earlier → refused_record earlier cs ≡ None → SoundRecords (earlier ++ cs)
 unfolding refused_record
 passed earlier [] h e = rw append-nil h
 passed earlier (c ∷ cs) h e =
@@ -169,7 +171,7 @@ module _ (s : Start) where
       go true e = absurd (n (misconfigured e))
       go false e = e
 
-pub sound-start : (s : Start) → refused_start s ≡ none → SoundStart s
+pub sound-start : (s : Start) → refused_start s ≡ None → SoundStart s
 unfolding refused_start
 sound-start s e =
     let boot = cond-none (eqb s.boot_id 0) _ _ e in
@@ -183,7 +185,7 @@ sound-start s e =
       records = passed [] s.capabilities (record { each = λ c m. absurd m; ids = tt }) config.1;
     }
 
-pub start-sound : (s : Start) → SoundStart s → refused_start s ≡ none
+pub start-sound : (s : Start) → SoundStart s → refused_start s ≡ None
 unfolding refused_start refused_record
 start-sound s h =
     rw (ne_eqb _ _ h.boot, config-sound _ _ (λ e. h.some (length-zero _ e)) h.few h.config)
@@ -192,10 +194,10 @@ start-sound s h =
 -- ---- which check fails first
 
 module _ (s : Start) (boot : s.boot_id ≢ 0) (fine : ¬ Misconfigured s) where
-  record-fails : (earlier cs : List Capability) (n : ℕ) → s.capabilities ≡ earlier ++ cs → SoundRecords earlier → refused_record earlier cs ≡ some n
+  record-fails : (earlier cs : List Capability) (n : ℕ) → s.capabilities ≡ earlier ++ cs → SoundRecords earlier → refused_record earlier cs ≡ Some n
       → StartFails s n
   unfolding refused_record
-  record-fails earlier [] n place h e = absurd (none-ne-some n e)
+  record-fails earlier [] n place h e = absurd (none-some n e)
   record-fails earlier (c ∷ cs) n place h e =
       go (sound c) refl (id_taken earlier c.id) refl e
       (λ own new. record-fails (earlier ++ (c ∷ [])) cs n (place ∙ sym (append_assoc earlier (c ∷ []) cs)) (one_more earlier c h own new))
@@ -204,20 +206,20 @@ module _ (s : Start) (boot : s.boot_id ≢ 0) (fine : ¬ Misconfigured s) where
       at = record { boot = boot; configured = fine; later = cs; place = place; before = h }
 
       go : (t : Bool) → sound c ≡ t → (u : Bool) → id_taken earlier c.id ≡ u
-          → cond (not t) (some invalid_capability) (cond u (some duplicate_capability) (refused_record (earlier ++ (c ∷ [])) cs)) ≡ some n
-          → (SoundCapability c → id_taken earlier c.id ≡ false → refused_record (earlier ++ (c ∷ [])) cs ≡ some n → StartFails s n) → StartFails s n
+          → cond (not t) (Some invalid_capability) (cond u (Some duplicate_capability) (refused_record (earlier ++ (c ∷ [])) cs)) ≡ Some n
+          → (SoundCapability c → id_taken earlier c.id ≡ false → refused_record (earlier ++ (c ∷ [])) cs ≡ Some n → StartFails s n) → StartFails s n
       go false p u q e rest =
           subst (StartFails s) (some-injective _ _ e) (Plain.unsound earlier c at (λ k. false≢true (sym p ∙ means-sound c k)))
       go true p true q e rest =
           subst (StartFails s) (some-injective _ _ e) (Plain.duplicate earlier c at (sound-means c p) (taken-mem earlier c.id q))
       go true p false q e rest = rest (sound-means c p) q e
 
-pub start-fails : (s : Start) (n : ℕ) → refused_start s ≡ some n → StartFails s n
+pub start-fails : (s : Start) (n : ℕ) → refused_start s ≡ Some n → StartFails s n
 unfolding refused_start
 start-fails s n e = go (eqb s.boot_id 0) refl (bad s) refl e
   where
     go : (t : Bool) → eqb s.boot_id 0 ≡ t → (u : Bool) → bad s ≡ u
-        → cond t (some 101) (cond u (some invalid_config) (refused_record [] s.capabilities)) ≡ some n → StartFails s n
+        → cond t (Some 101) (cond u (Some invalid_config) (refused_record [] s.capabilities)) ≡ Some n → StartFails s n
     go true p u q e = subst (StartFails s) (some-injective _ _ e) (Plain.boot (eqb-true _ _ p))
     go false p true q e = subst (StartFails s) (some-injective _ _ e) (Plain.configuration (eqb-false _ _ p) (misconfigured s q))
     go false p false q e =
@@ -230,14 +232,14 @@ fails-at s earlier c k =
     rw (ne_eqb _ _ k.boot, is-configured s k.configured)
     (ap (refused_record []) k.place ∙ skip [] earlier (c ∷ k.later) k.before)
 
-pub fails-start : (s : Start) (n : ℕ) → StartFails s n → refused_start s ≡ some n
+pub fails-start : (s : Start) (n : ℕ) → StartFails s n → refused_start s ≡ Some n
 unfolding refused_start refused_record
 fails-start s n (Plain.boot e) = rw (eq-eqb _ _ e)
 fails-start s n (Plain.configuration b m) = rw (ne_eqb _ _ b, is-misconfigured s m)
 fails-start s n (Plain.unsound earlier c k u) = fails-at s earlier c k ∙ go (sound c) refl
   where
     go : (t : Bool) → sound c ≡ t
-        → cond (not t) (some 103) (cond (id_taken earlier c.id) (some duplicate_capability) (refused_record (earlier ++ (c ∷ [])) k.later)) ≡ some 103
+        → cond (not t) (Some 103) (cond (id_taken earlier c.id) (Some duplicate_capability) (refused_record (earlier ++ (c ∷ [])) k.later)) ≡ Some 103
     go true e = absurd (u (sound-means c e))
     go false e = refl
 fails-start s n (Plain.duplicate earlier c k h m) = fails-at s earlier c k ∙ rw (means-sound c h, mem-taken earlier c.id m)

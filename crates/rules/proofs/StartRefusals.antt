@@ -3,7 +3,8 @@ use Prim.Native.Nat.{ℕ}
 use mathlib.Core.Bool.{Bool, true, false, cond, ◌&&◌, true≢false}
 use mathlib.Core.List.{List, [], ◌∷◌, ◌++◌, append-nil, cons≢nil}
 use mathlib.Core.Logic.{◌≢◌, ◌↔◌, ⊎_elim}
-use mathlib.Core.Option.{Option, some, none, some-ne-none}
+use Rattle.std.specs.Prelude.{Option, Some, None}
+use Rattle.model.proofs.Options.{some-ne-none}
 use mathlib.Core.Path.{◌≡◌, refl, sym, ap, ◌∙◌, subst}
 use Rattle.rules.specs.Lists.{Mem}
 use Rattle.rules.specs.Book.{Book}
@@ -35,8 +36,8 @@ unlogged e NoRuntime q = refl
 
 reads_nothing : (q : Reading) (o : Option Book) → took_effect (shown q o) ≡ false
 unfolding shown took_effect
-reads_nothing q none = refl
-reads_nothing q (some b) = refl
+reads_nothing q None = refl
+reads_nothing q (Some b) = refl
 
 pub stays-silent : (p : Phase) (i : Input) → Stays p i → took_effect (react p i).output ≡ false
 unfolding react apply effect logged arrived
@@ -109,8 +110,8 @@ no-refusal (Record q b k) r = r
 -- the checks of a start
 checked : (s : Start) (o : Option ℕ) → refused_start s ≡ o → (n : ℕ) → (start_unless o s).output ≡ StartRefused n → StartFails s n
 unfolding start_unless start_from
-checked s (some m) q n e = subst (StartFails s) (refused-same e) (start-fails s m q)
-checked s none q n e = go (used_axes s.capabilities) e
+checked s (Some m) q n e = subst (StartFails s) (refused-same e) (start-fails s m q)
+checked s None q n e = go (used_axes s.capabilities) e
   where
     go : (axes : List ℕ) → (start_from s axes true).output ≡ StartRefused n → StartFails s n
     go [] e = absurd (subst RefusesStart (sym e) tt)
@@ -159,8 +160,8 @@ unfolding output_after took_effect
 sound-before s i h n e unsound = go (refused_start s) refl
   where
     go : (o : Option ℕ) → refused_start s ≡ o → ⊥
-    go none q = unsound (sound-start s q)
-    go (some m) q =
+    go None q = unsound (sound-start s q)
+    go (Some m) q =
         let first : output_after s [] ≡ StartRefused m = (which s m).1 (start-fails s m q) in
         let gone : phase_after s h ≡ Gone = rw append-nil at (gone-later s [] (at_once s m first).0 h) in
         true≢false (sym (ap took_effect e) ∙ ap (λ (p : Phase). took_effect (react p i).output) gone ∙ (gone-stays i).1)
@@ -176,7 +177,7 @@ startup s i h n e = (
 -- ---- a start that goes on no more, after a failure
 
 -- a call is in hand from its first item on
-begun-call : (c : Call) (t : Interaction) (l : Log) → call_of (logged (Calls c) (proceed t).output l) ≢ none
+begun-call : (c : Call) (t : Interaction) (l : Log) → call_of (logged (Calls c) (proceed t).output l) ≢ None
 unfolding logged arrived handed proceed took_effect call_of
 begun-call c (Done b a) l e = some-ne-none _ e
 begun-call c (Observe axis b k) l e = some-ne-none _ e
@@ -185,14 +186,14 @@ begun-call c (Fallback axis r b k) l e = some-ne-none _ e
 begun-call c (Record r b k) l e = some-ne-none _ e
 
 -- and while it waits
-in-hand : (s : Start) (l : Log) (t : Interaction) (p : Phase) → Stands t p → Progress s l p → call_of l ≢ none
+in-hand : (s : Start) (l : Log) (t : Interaction) (p : Phase) → Stands t p → Progress s l p → call_of l ≢ None
 in-hand s l t p at_observe g e = not_none l g.1 e
 in-hand s l t p at_execute g e = not_none l g.1 e
 in-hand s l t p at_fallback g e = not_none l g.1 e
 in-hand s l t p at_record g e = not_none l g.1 e
 
 waits-call : (s : Start) (l : Log) (t : Interaction) (p : Phase) (r : Reply) (u : Interaction) → Stands t p → Progress s l p
-    → call_of (event_at u ++ (Replied r ∷ l)) ≢ none
+    → call_of (event_at u ++ (Replied r ∷ l)) ≢ None
 unfolding event_at call_of
 waits-call s l t p r (Done b a) st g e = in-hand s l t p st g e
 waits-call s l t p r (Observe axis b k) st g e = in-hand s l t p st g e
@@ -201,14 +202,14 @@ waits-call s l t p r (Fallback axis q b k) st g e = in-hand s l t p st g e
 waits-call s l t p r (Record q b k) st g e = in-hand s l t p st g e
 
 refuses-last : (s : Start) (l : Log) (p : Phase) (i : Input) → Step p i → Progress s l p → took_effect (react p i).output ≡ true
-    → call_of (logged i (react p i).output l) ≡ none → awaited_in (react p i).phase ≡ none
+    → call_of (logged i (react p i).output l) ≡ None → awaited_in (react p i).phase ≡ None
     → Progress s (logged i (react p i).output l) (react p i).phase → Mem (FellBack false) (start_replies (logged i (react p i).output l))
     → (react p i).output ≡ StartRefused 105
 unfolding react apply effect called replied start_replied start_from
 refuses-last s l p i (stays st) g took call idle next m = absurd (true≢false (sym took ∙ stays-silent p i st))
 refuses-last s l p i (tries own axis rest good ok) g took call idle next m = go rest (good && ok) idle next m
   where
-    go : (rest : List ℕ) (good : Bool) → awaited_in (start_from own rest good).phase ≡ none
+    go : (rest : List ℕ) (good : Bool) → awaited_in (start_from own rest good).phase ≡ None
         → Progress s (logged (Replies (FellBack ok)) (start_from own rest good).output l) (start_from own rest good).phase
         → Mem (FellBack false) (start_replies (logged (Replies (FellBack ok)) (start_from own rest good).output l))
         → (start_from own rest good).output ≡ StartRefused 105
@@ -230,7 +231,7 @@ none-replied (Refuses n) m = m
 none-replied (Shows v) m = m
 none-replied NoRuntime m = m
 
-refused : (s : Start) (h : History) → SoundStart s → took_effect (output_after s h) ≡ true → call_of (log_of s h) ≡ none → awaited (log_of s h) ≡ none
+refused : (s : Start) (h : History) → SoundStart s → took_effect (output_after s h) ≡ true → call_of (log_of s h) ≡ None → awaited (log_of s h) ≡ None
     → Mem (FellBack false) (start_replies (log_of s h)) → output_after s h ≡ StartRefused 105
 unfolding output_after log_of phase_after
 refused s [] sound took call idle m = absurd (none-replied (start s).output m)
@@ -239,14 +240,14 @@ refused s (i ∷ h) sound took call idle m =
 
 -- and it starts if none failed
 starts-last : (s : Start) (l : Log) (p : Phase) (i : Input) → Step p i → Progress s l p → took_effect (react p i).output ≡ true
-    → call_of (logged i (react p i).output l) ≡ none → awaited_in (react p i).phase ≡ none
+    → call_of (logged i (react p i).output l) ≡ None → awaited_in (react p i).phase ≡ None
     → Progress s (logged i (react p i).output l) (react p i).phase → SoundStart s
     → ¬ Mem (FellBack false) (start_replies (logged i (react p i).output l)) → (react p i).output ≡ Started
 unfolding react apply effect called replied start_replied start_from
 starts-last s l p i (stays st) g took call idle next sound m = absurd (true≢false (sym took ∙ stays-silent p i st))
 starts-last s l p i (tries own axis rest good ok) g took call idle next sound m = go rest (good && ok) idle next m
   where
-    go : (rest : List ℕ) (good : Bool) → awaited_in (start_from own rest good).phase ≡ none
+    go : (rest : List ℕ) (good : Bool) → awaited_in (start_from own rest good).phase ≡ None
         → Progress s (logged (Replies (FellBack ok)) (start_from own rest good).output l) (start_from own rest good).phase
         → ¬ Mem (FellBack false) (start_replies (logged (Replies (FellBack ok)) (start_from own rest good).output l))
         → (start_from own rest good).output ≡ Started
@@ -258,12 +259,12 @@ starts-last s l p i (answers {r = r} t u a) g took call idle next sound m =
     absurd (waits-call s l t p r u a.stands g (rw (a.log l) at call))
 
 -- a sound start does not end at once
-begins-so : (s : Start) (axes : List ℕ) → awaited (handed (start_from s axes true).output) ≡ none → (start_from s axes true).output ≡ Started
+begins-so : (s : Start) (axes : List ℕ) → awaited (handed (start_from s axes true).output) ≡ None → (start_from s axes true).output ≡ Started
 unfolding start_from handed awaited
 begins-so s (axis ∷ axes) e = absurd (some-ne-none _ e)
 begins-so s [] e = refl
 
-started : (s : Start) (h : History) → SoundStart s → took_effect (output_after s h) ≡ true → call_of (log_of s h) ≡ none → awaited (log_of s h) ≡ none
+started : (s : Start) (h : History) → SoundStart s → took_effect (output_after s h) ≡ true → call_of (log_of s h) ≡ None → awaited (log_of s h) ≡ None
     → ¬ Mem (FellBack false) (start_replies (log_of s h)) → output_after s h ≡ Started
 unfolding output_after log_of phase_after start start_unless
 started s [] sound took call idle m =

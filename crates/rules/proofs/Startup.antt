@@ -4,12 +4,15 @@ use Prim.Native.Nat.{ℕ, zero, suc, ◌+◌, ◌≤◌}
 use mathlib.Core.Bool.{Bool, true, false, cond, ◌&&◌, false≢true, true≢false}
 use mathlib.Core.List.{List, [], ◌∷◌, ◌++◌, map, append-nil, append_assoc}
 use mathlib.Core.Logic.{◌≢◌, ◌⊎◌, inl, inr, ⊎_elim}
-use mathlib.Core.Option.{Option, some, none, none-ne-some, some-ne-none}
+use Rattle.std.specs.Prelude.{Option, Some, None}
+use Rattle.std.proofs.lemmas.Option.{none-some}
+use Rattle.model.proofs.Options.{some-ne-none}
 use mathlib.Core.Path.{◌≡◌, refl, sym, ap, ap₂, ◌∙◌, subst}
 use native.Mathlib.Omega.{arith}
 use borrow.Author.Tests.{eq-eqb, ne_eqb}
 use lib.IntN.{ℤ}
-use lib.ListN.{length, length-map, length-append, get_or, replicate, take, get_elem?}
+use lib.ListN.{length, length-map, length-append, get_or, replicate, take}
+use Rattle.std.specs.Prelude.{slice_get}
 use lib.Seq.{take_all}
 use Rattle.model.specs.declared.Capability.{Capability}
 use Rattle.model.specs.declared.Reason.TheVariants.{Startup}
@@ -91,7 +94,7 @@ none-bad (axis ∷ axes) (inl e) = fell≢ e
 none-bad (axis ∷ axes) (inr m) = none-bad axes m
 
 -- one more reply
-one_more : (s : Start) (good : Bool) (axis : ℕ) (rest : List ℕ) (ok : Bool) (l : Log) → Answered s good (axis ∷ rest) l → call_of l ≡ none
+one_more : (s : Start) (good : Bool) (axis : ℕ) (rest : List ℕ) (ok : Bool) (l : Log) → Answered s good (axis ∷ rest) l → call_of l ≡ None
     → Answered s (good && ok) rest (Replied (FellBack ok) ∷ l)
 unfolding start_replies unless_called
 one_more s good axis rest ok l a call =
@@ -110,18 +113,18 @@ pub record Trying (s own : Start) (axis : ℕ) (rest : List ℕ) (good : Bool) (
   pub sound : SoundStart s
   pub items : start_items l ++ try_items rest ≡ try_items (used_axes s.capabilities)
   pub tried : Answered s good (axis ∷ rest) l
-  pub call : call_of l ≡ none
+  pub call : call_of l ≡ None
 
 abbrev pub InCall : Log → Type 0
-InCall l = (c : Call) × (call_of l ≡ some c)
+InCall l = (c : Call) × (call_of l ≡ Some c)
 
 abbrev pub Progress : Start → Log → Phase → Type 0
 Progress s l (Starting own axis rest good) = Trying s own axis rest good l
 Progress s l Gone = (¬ SoundStart s) ⊎ StartupFailed s l
-Progress s l (Idle b) = StartedUp s l × (call_of l ≡ none → b ≡ opening s)
+Progress s l (Idle b) = StartedUp s l × (call_of l ≡ None → b ≡ opening s)
 Progress s l (Waiting w) = StartedUp s l × InCall l
 
-pub not_none : (l : Log) → InCall l → call_of l ≢ none
+pub not_none : (l : Log) → InCall l → call_of l ≢ None
 not_none l n e = some-ne-none n.0 (sym n.1 ∙ e)
 
 module _ (s : Start) (l : Log) where
@@ -154,7 +157,7 @@ module _ (s : Start) (l : Log) where
 
   -- the start goes on to the first of these axes, or is over
   goes_on : (axes : List ℕ) (good : Bool) → SoundStart s → start_items l ++ try_items axes ≡ try_items (used_axes s.capabilities)
-      → Answered s good axes l → call_of l ≡ none → Progress s (handed (start_from s axes good).output ++ l) (start_from s axes good).phase
+      → Answered s good axes l → call_of l ≡ None → Progress s (handed (start_from s axes good).output ++ l) (start_from s axes good).phase
   unfolding start_from handed start_items start_replies call_of unless_called
   goes_on (axis ∷ rest) good h is a call =
       record {
@@ -205,20 +208,20 @@ unfolding log_of phase_after start start_unless start_items start_replies call_o
 progress s [] = go (refused_start s) refl
   where
     go : (r : Option ℕ) → refused_start s ≡ r → Progress s (handed (start_unless r s).output) (start_unless r s).phase
-    go (some n) e = inl (λ h. some-ne-none n (sym e ∙ start-sound s h))
-    go none e =
+    go (Some n) e = inl (λ h. some-ne-none n (sym e ∙ start-sound s h))
+    go None e =
         rw append-nil at
         (goes_on s [] (used_axes s.capabilities) true (sound-start s e) refl
         (record { oks = []; replies = refl; sum = refl; count = omega arith }) refl)
 progress s (i ∷ past) = progress_step s (log_of s past) (phase_after s past) i (step (phase_after s past) i) (progress s past)
 
-pub started-up : (s : Start) (h : History) (b : Book) → book_in (phase_after s h) ≡ some b → StartedUp s (log_of s h)
+pub started-up : (s : Start) (h : History) (b : Book) → book_in (phase_after s h) ≡ Some b → StartedUp s (log_of s h)
 unfolding book_in
 started-up s h b e = go (phase_after s h) (progress s h) e
   where
-    go : (p : Phase) → Progress s (log_of s h) p → book_in p ≡ some b → StartedUp s (log_of s h)
-    go (Starting own axis rest good) g e = absurd (none-ne-some b e)
-    go Gone g e = absurd (none-ne-some b e)
+    go : (p : Phase) → Progress s (log_of s h) p → book_in p ≡ Some b → StartedUp s (log_of s h)
+    go (Starting own axis rest good) g e = absurd (none-some b e)
+    go Gone g e = absurd (none-some b e)
     go (Idle a) g e = g.0
     go (Waiting w) g e = g.0
 
@@ -236,8 +239,8 @@ opens-so s =
       configured = refl;
       booted = refl;
       listed = refl;
-      leases = nothing-at none 8;
-      active = nothing-at none 8;
+      leases = nothing-at None 8;
+      active = nothing-at None 8;
       replay = refl;
       receipts = refl;
       next_receipt = refl;
@@ -254,7 +257,7 @@ opens-so s =
 
 pub there-is-a-runtime : (s : Start) (h : History) → SoundStart s
     → start_replies (log_of s h) ≡ map (λ axis. FellBack true) (used_axes s.capabilities)
-    → ((b : Book) × (book_in (phase_after s h) ≡ some b)) × (call_of (log_of s h) ≡ none → (b : Book) × (phase_after s h ≡ Idle b) × OpensSo s b)
+    → ((b : Book) × (book_in (phase_after s h) ≡ Some b)) × (call_of (log_of s h) ≡ None → (b : Book) × (phase_after s h ≡ Idle b) × OpensSo s b)
 unfolding book_in
 there-is-a-runtime s h sound good = go (phase_after s h) (progress s h)
   where
@@ -262,7 +265,7 @@ there-is-a-runtime s h sound good = go (phase_after s h) (progress s h)
     bad f = none-bad (used_axes s.capabilities) (subst (λ rs. Mem (FellBack false) rs) good f.failed)
 
     go : (p : Phase) → Progress s (log_of s h) p
-        → ((b : Book) × (book_in p ≡ some b)) × (call_of (log_of s h) ≡ none → (b : Book) × (p ≡ Idle b) × OpensSo s b)
+        → ((b : Book) × (book_in p ≡ Some b)) × (call_of (log_of s h) ≡ None → (b : Book) × (p ≡ Idle b) × OpensSo s b)
     go (Starting own axis rest ok) g = absurd (unfinished s ok axis rest (log_of s h) g.tried good)
     go Gone g = absurd (⊎_elim (λ n. n sound) bad g)
     go (Idle b) g = ((b, refl), λ e. (opening s, ap Idle (g.1 e), opens-so s))
@@ -309,16 +312,16 @@ selected p (j ∷ is) i m = go (p j) refl m (selected p is i)
 -- ---- an execute item comes after the start
 
 -- an item other than a startup fallback is handed out by a call
-in-call-of : (p : Phase) (c : ℕ) (ps : List ℤ) → awaited_in p ≡ some (ItemExecute c ps) → (b : Book) × (book_in p ≡ some b)
+in-call-of : (p : Phase) (c : ℕ) (ps : List ℤ) → awaited_in p ≡ Some (ItemExecute c ps) → (b : Book) × (book_in p ≡ Some b)
 unfolding book_in
 in-call-of (Starting own axis rest good) c ps e = absurd (false≢true (cc))
-in-call-of Gone c ps e = absurd (none-ne-some _ e)
-in-call-of (Idle b) c ps e = absurd (none-ne-some _ e)
+in-call-of Gone c ps e = absurd (none-some _ e)
+in-call-of (Idle b) c ps e = absurd (none-some _ e)
 in-call-of (Waiting w) c ps e = (_, refl)
 
 -- one place in both lists
 place_of : (axis : ℕ) (axes : List ℕ) → Mem axis axes
-    → (n : ℕ) × (get_elem? (try_items axes) n ≡ some (ItemFallback axis Startup)) × (get_elem? (good_replies axes) n ≡ some (FellBack true))
+    → (n : ℕ) × (slice_get (try_items axes) n ≡ Some (ItemFallback axis Startup)) × (slice_get (good_replies axes) n ≡ Some (FellBack true))
 place_of axis [] m = absurd m
 place_of axis (a ∷ axes) (inl e) = (zero, rw e, refl)
 place_of axis (a ∷ axes) (inr m) = let k = place_of axis axes m in (suc k.0, k.1, k.2)
@@ -371,7 +374,7 @@ taken (suc n) (x ∷ xs) rest (u ∷ used) e q =
     let k = fallback-same e in
     ap₂ (λ (i : Item) (is : List Item). i ∷ is) k.0 (taken n xs rest used k.1 (omega arith))
 
-pub goes-on-so : (s : Start) (h : History) → SoundStart s → call_of (log_of s h) ≡ none
+pub goes-on-so : (s : Start) (h : History) → SoundStart s → call_of (log_of s h) ≡ None
     → start_items (log_of s h) ≡ map (λ axis. ItemFallback axis Startup) (take (length (start_replies (log_of s h)) + 1) (used_axes s.capabilities))
 goes-on-so s h sound call = go (phase_after s h) (progress s h)
   where

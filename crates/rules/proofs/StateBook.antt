@@ -4,7 +4,8 @@ use Prim.Native.Nat.{ℕ, zero, suc, ◌<◌, ◌≤◌}
 use mathlib.Core.Bool.{Bool, true, false, cond, ◌||◌, false≢true, true≢false}
 use mathlib.Core.List.{List, [], ◌∷◌}
 use mathlib.Core.Logic.{inl, inr, ◌≢◌}
-use mathlib.Core.Option.{Option, some, none, none-ne-some}
+use Rattle.std.specs.Prelude.{Option, Some, None}
+use Rattle.std.proofs.lemmas.Option.{none-some}
 use mathlib.Core.Path.{◌≡◌, refl, sym, ap, ◌∙◌, subst}
 use native.Mathlib.Omega.{arith}
 use borrow.Author.Tests.{eqb-true, eq-eqb}
@@ -44,14 +45,14 @@ ReachedIn time b = Reached time b.epoch b.next_receipt b.next_lease b.last_tick
 
 -- a lease that stands is on a used axis
 abbrev pub OnUsed : List Capability → ℕ → Option Lease → Type 0
-OnUsed cs i o = (x : Lease) → o ≡ some x → axis_used cs i ≡ true
+OnUsed cs i o = (x : Lease) → o ≡ Some x → axis_used cs i ≡ true
 
 -- a record over the fields that it speaks of, so that a step which touches none of them is the identity
 pub record Base (s : Start) (caps : List Capability) (leases : List (Option Lease)) (flags : ℕ) (config : Config) (state : RuntimeState)
     (epoch next_receipt next_lease state_at last_tick : ℕ) : Type 0 where
   pub capabilities : caps ≡ s.capabilities
   pub eight : length leases ≡ 8
-  pub used : (i : ℕ) → OnUsed s.capabilities i (get_or leases i none)
+  pub used : (i : ℕ) → OnUsed s.capabilities i (get_or leases i None)
   pub mask : meets_estop flags config ≡ true → state ≡ State.Estopped
   pub stamp : Reached state_at epoch next_receipt next_lease last_tick
   pub fits : next_lease ≤ top
@@ -131,26 +132,26 @@ refreshed-armed true x e = refl
 
 -- ---- leases
 
-none-stands : (ls : List (Option Lease)) → any is_some ls ≡ false → (i : ℕ) → get_or ls i none ≡ none
+none-stands : (ls : List (Option Lease)) → any is_some ls ≡ false → (i : ℕ) → get_or ls i None ≡ None
 unfolding is_some
 none-stands [] e i = refl
-none-stands (none ∷ ls) e zero = refl
-none-stands (none ∷ ls) e (suc i) = none-stands ls e i
-none-stands (some x ∷ ls) e i = absurd (true≢false e)
+none-stands (None ∷ ls) e zero = refl
+none-stands (None ∷ ls) e (suc i) = none-stands ls e i
+none-stands (Some x ∷ ls) e i = absurd (true≢false e)
 
-one-stands : (ls : List (Option Lease)) → any is_some ls ≡ true → (i : ℕ) × (x : Lease) × (get_or ls i none ≡ some x)
+one-stands : (ls : List (Option Lease)) → any is_some ls ≡ true → (i : ℕ) × (x : Lease) × (get_or ls i None ≡ Some x)
 unfolding is_some
 one-stands [] e = absurd (false≢true e)
-one-stands (none ∷ ls) e = let r = one-stands ls e in (suc r.0, r.1, r.2)
-one-stands (some x ∷ ls) e = (zero, x, refl)
+one-stands (None ∷ ls) e = let r = one-stands ls e in (suc r.0, r.1, r.2)
+one-stands (Some x ∷ ls) e = (zero, x, refl)
 
 -- a lease stands or none does
-pub not-both : {A : Type 0} {o : Option Lease} {x : Lease} → o ≡ none → o ≡ some x → A
-not-both {x = x} n e = absurd (none-ne-some x (sym n ∙ e))
+pub not-both : {A : Type 0} {o : Option Lease} {x : Lease} → o ≡ None → o ≡ Some x → A
+not-both {x = x} n e = absurd (none-some x (sym n ∙ e))
 
 -- no lease stands in the opening book
 abbrev vacant : Option Lease
-vacant = none
+vacant = None
 
 opening-vacant : (n i : ℕ) → get_or (replicate n vacant) i vacant ≡ vacant
 opening-vacant zero i = refl
@@ -164,8 +165,8 @@ unfolding cleared bump_epoch with_epoch with_leases with_active
 base-cleared s axis b h =
     record {
       capabilities = h.capabilities;
-      eight = length-set b.leases axis none ∙ h.eight;
-      used = λ i. at_set none (OnUsed s.capabilities i) b.leases axis none i (λ e x q. absurd (none-ne-some x q)) (λ m. h.used i);
+      eight = length-set b.leases axis None ∙ h.eight;
+      used = λ i. at_set None (OnUsed s.capabilities i) b.leases axis None i (λ e x q. absurd (none-some x q)) (λ m. h.used i);
       mask = h.mask;
       stamp = λ p. h.stamp (not_top _ p);
       fits = h.fits;
@@ -173,7 +174,7 @@ base-cleared s axis b h =
 
 none-cleared : (axis : ℕ) (b : Book) → NoLease b → NoLease (cleared axis b)
 unfolding cleared bump_epoch with_epoch with_leases with_active
-none-cleared axis b h i = at_set none (λ o. o ≡ none) b.leases axis none i (λ e. refl) (λ m. h i)
+none-cleared axis b h i = at_set None (λ o. o ≡ None) b.leases axis None i (λ e. refl) (λ m. h i)
 
 pub good-cleared : (s : Start) (axis : ℕ) (b : Book) → Good s b → Good s (cleared axis b)
 unfolding cleared bump_epoch with_epoch with_leases with_active
@@ -298,8 +299,8 @@ tidy-granted s x b up on h =
     tidy-refreshed s _
     (record {
       capabilities = h.capabilities;
-      eight = length-set b.leases x.resource (some x) ∙ h.eight;
-      used = λ i. at_set none (OnUsed s.capabilities i) b.leases x.resource (some x) i (λ e y q. rw e on) (λ m. h.used i);
+      eight = length-set b.leases x.resource (Some x) ∙ h.eight;
+      used = λ i. at_set None (OnUsed s.capabilities i) b.leases x.resource (Some x) i (λ e y q. rw e on) (λ m. h.used i);
       mask = h.mask;
       stamp = λ p q r. h.stamp (not_top _ p) q (not_top _ r);
       fits = bump-fits b.next_lease h.fits;
@@ -307,8 +308,8 @@ tidy-granted s x b up on h =
     (λ e. absurd (true≢false (sym up ∙ e)))
 
 -- a lease in the place of one that stands
-pub tidy-replaced : (s : Start) (axis : ℕ) (x y : Lease) (b : Book) → lease_at b axis ≡ some x → Tidy s b
-    → Tidy s (with_leases (set b.leases axis (some y)) b)
+pub tidy-replaced : (s : Start) (axis : ℕ) (x y : Lease) (b : Book) → lease_at b axis ≡ Some x → Tidy s b
+    → Tidy s (with_leases (set b.leases axis (Some y)) b)
 unfolding with_leases
 tidy-replaced s axis x y b at h =
     let f = h.0.0.0 in (
@@ -316,8 +317,8 @@ tidy-replaced s axis x y b at h =
         (
           record {
             capabilities = f.capabilities;
-            eight = length-set b.leases axis (some y) ∙ f.eight;
-            used = λ i. at_set none (OnUsed s.capabilities i) b.leases axis (some y) i (λ e z q. rw e (f.used axis x at)) (λ m. f.used i);
+            eight = length-set b.leases axis (Some y) ∙ f.eight;
+            used = λ i. at_set None (OnUsed s.capabilities i) b.leases axis (Some y) i (λ e z q. rw e (f.used axis x at)) (λ m. f.used i);
             mask = f.mask;
             stamp = f.stamp;
             fits = f.fits;
@@ -326,7 +327,7 @@ tidy-replaced s axis x y b at h =
         ),
         λ e. not-both (h.0.1 e axis) at,
       ),
-      λ e. (axis, y, at_set none (λ o. o ≡ some y) b.leases axis (some y) axis (λ e. refl) (λ m. not-both (m refl) at)),
+      λ e. (axis, y, at_set None (λ o. o ≡ Some y) b.leases axis (Some y) axis (λ e. refl) (λ m. not-both (m refl) at)),
     )
 
 -- ---- the opening book
@@ -357,14 +358,14 @@ tidy-opening s = (
 
 -- ---- the used axes
 
-inside : (ls : List (Option Lease)) (i : ℕ) (x : Lease) → get_or ls i none ≡ some x → i < length ls
-inside [] i x e = absurd (none-ne-some x e)
+inside : (ls : List (Option Lease)) (i : ℕ) (x : Lease) → get_or ls i None ≡ Some x → i < length ls
+inside [] i x e = absurd (none-some x e)
 inside (o ∷ ls) zero x e = omega arith
 inside (o ∷ ls) (suc i) x e = omega (arith, inside ls i x e)
 
 -- every lease stands on one of these axes
 abbrev pub OnlyOn : List ℕ → Book → Type 0
-OnlyOn is b = (i : ℕ) (x : Lease) → lease_at b i ≡ some x → Mem i is
+OnlyOn is b = (i : ℕ) (x : Lease) → lease_at b i ≡ Some x → Mem i is
 
 -- a lease stands on one of the eight axes
 pub on-axis : (s : Start) (b : Book) → BaseOf s b → OnlyOn axes b
@@ -377,9 +378,9 @@ only-used s b h i x e = rw h.capabilities (mem-used s.capabilities i (h.used i x
 pub only-cleared : (axis : ℕ) (is : List ℕ) (b : Book) → OnlyOn (axis ∷ is) b → OnlyOn is (cleared axis b)
 unfolding cleared bump_epoch with_epoch with_leases with_active
 only-cleared axis is b h i x =
-    at_set none (λ o. o ≡ some x → Mem i is) b.leases axis none i (λ e q. absurd (none-ne-some x q)) (λ m q. go m q (h i x q))
+    at_set None (λ o. o ≡ Some x → Mem i is) b.leases axis None i (λ e q. absurd (none-some x q)) (λ m q. go m q (h i x q))
   where
-    go : (i ≡ axis → lease_at b i ≡ none) → lease_at b i ≡ some x → Mem i (axis ∷ is) → Mem i is
+    go : (i ≡ axis → lease_at b i ≡ None) → lease_at b i ≡ Some x → Mem i (axis ∷ is) → Mem i is
     go m q (inl e) = not-both (m e) q
     go m q (inr n) = n
 
@@ -390,9 +391,9 @@ only_kept is r b h = h
 pub only_none : (b : Book) → OnlyOn [] b → NoLease b
 only_none b h i = go (lease_at b i) refl
   where
-    go : (o : Option Lease) → lease_at b i ≡ o → o ≡ none
-    go none e = refl
-    go (some x) e = absurd (h i x e)
+    go : (o : Option Lease) → lease_at b i ≡ o → o ≡ None
+    go None e = refl
+    go (Some x) e = absurd (h i x e)
 
 -- ---- a lease and the state
 
@@ -410,6 +411,6 @@ armed-by s b h stands = go b.state refl
 pub unarmed : (s : Start) (b : Book) → Calm s b → b.state ≢ State.Armed → NoLease b
 unarmed s b h n axis = go (lease_at b axis) refl
   where
-    go : (o : Option Lease) → lease_at b axis ≡ o → o ≡ none
-    go none e = refl
-    go (some x) e = absurd (n (armed-by s b h (axis, x, e)))
+    go : (o : Option Lease) → lease_at b axis ≡ o → o ≡ None
+    go None e = refl
+    go (Some x) e = absurd (n (armed-by s b h (axis, x, e)))

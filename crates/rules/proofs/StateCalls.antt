@@ -3,7 +3,9 @@ use Prim.Native.Nat.{ℕ, ◌≤◌}
 use mathlib.Core.Bool.{Bool, true, false, cond, not, ◌&&◌, ◌||◌, true≢false, false≢true}
 use mathlib.Core.List.{List, [], ◌∷◌, ◌++◌}
 use mathlib.Core.Logic.{◌≢◌}
-use mathlib.Core.Option.{Option, some, none, none-ne-some, some-injective}
+use Rattle.std.specs.Prelude.{Option, Some, None}
+use Rattle.std.proofs.lemmas.Option.{none-some}
+use Rattle.model.proofs.Options.{some-injective}
 use mathlib.Core.Path.{◌≡◌, refl, sym, ap, ◌∙◌, subst}
 use native.Mathlib.Omega.{arith}
 use borrow.Author.Tests.{le-leb}
@@ -49,31 +51,31 @@ other reason h e = false≢true (sym (ap is_other e) ∙ h)
 abbrev others : List Check → Bool
 others cs = all (λ c. is_other c.reason) cs
 
-first-other : (cs : List Check) (reason : Reason) → others cs ≡ true → first_failing cs ≡ some reason → is_other reason ≡ true
+first-other : (cs : List Check) (reason : Reason) → others cs ≡ true → first_failing cs ≡ Some reason → is_other reason ≡ true
 unfolding first_failing
-first-other [] reason h e = absurd (none-ne-some reason e)
+first-other [] reason h e = absurd (none-some reason e)
 first-other (c ∷ cs) reason h e = let k = and_both (is_other c.reason) (others cs) h in go c.holds e k.0 (first-other cs reason k.1)
   where
-    go : (t : Bool) → cond t (first_failing cs) (some c.reason) ≡ some reason → is_other c.reason ≡ true
-        → (first_failing cs ≡ some reason → is_other reason ≡ true) → is_other reason ≡ true
+    go : (t : Bool) → cond t (first_failing cs) (Some c.reason) ≡ Some reason → is_other c.reason ≡ true
+        → (first_failing cs ≡ Some reason → is_other reason ≡ true) → is_other reason ≡ true
     go true e k rest = rest e
     go false e k rest = subst (λ x. is_other x ≡ true) (some-injective _ _ e) k
 
 -- where the last tick is the time of the call, or the runtime is not ready, readiness fails for another reason
 ready-other : (now : ℕ) (b : Book) (rest : List Check) (reason : Reason) → (is_ready b.state ≡ true → b.last_tick ≡ now) → others rest ≡ true
-    → first_failing (ready now b ++ rest) ≡ some reason → is_other reason ≡ true
+    → first_failing (ready now b ++ rest) ≡ Some reason → is_other reason ≡ true
 unfolding ready first_failing is_estopped is_faulted is_ready
 ready-other now b rest reason clock o = go b.state refl
   where
     later : List Check
     later = check (not (is_stale now b)) Reason.StateStale ∷ rest
 
-    passed : b.last_tick ≡ now → cond (leb b.last_tick now) (first_failing later) (some Reason.Clock) ≡ some reason → is_other reason ≡ true
+    passed : b.last_tick ≡ now → cond (leb b.last_tick now) (first_failing later) (Some Reason.Clock) ≡ Some reason → is_other reason ≡ true
     passed e h = first-other later reason o (rw (le-leb b.last_tick now (omega arith)) at h)
 
     go : (x : RuntimeState) → b.state ≡ x
-        → cond (not (is_estopped x)) (cond (not (is_faulted x)) (cond (leb b.last_tick now) (first_failing later) (some Reason.Clock)) (some Reason.Faulted)) (some Reason.Estop)
-        ≡ some reason → is_other reason ≡ true
+        → cond (not (is_estopped x)) (cond (not (is_faulted x)) (cond (leb b.last_tick now) (first_failing later) (Some Reason.Clock)) (Some Reason.Faulted)) (Some Reason.Estop)
+        ≡ Some reason → is_other reason ≡ true
     go State.SafeIdle e h = passed (clock (rw e)) h
     go State.Armed e h = passed (clock (rw e)) h
     go State.Faulted e h = subst (λ x. is_other x ≡ true) (some-injective _ _ h) refl
@@ -207,8 +209,8 @@ module _ (s : Start) where
 
   end-canceled : (axis : Option ℕ) (now : ℕ) (l : Log) (b : Book) → Tidy s b → Safe (Seen s) End l (canceled axis now b)
   unfolding canceled
-  end-canceled none now l b h = (h, other Reason.Authority refl)
-  end-canceled (some axis) now l b h = after-fallback s End (Calm s) (λ b' k. k.0) (calm-kept s) axis Reason.Canceled now l b _ (calm-cleared s axis b h.0) after
+  end-canceled None now l b h = (h, other Reason.Authority refl)
+  end-canceled (Some axis) now l b h = after-fallback s End (Calm s) (λ b' k. k.0) (calm-kept s) axis Reason.Canceled now l b _ (calm-cleared s axis b h.0) after
     where
       after : (ok : Bool) (l' : Log) (b' : Book) → Calm s b'
           → Safe (Seen s) End l' (cond ok (Done (refresh_state b') Succeeded) (trip Reason.Driver now b' (λ b''. Done b'' (Refused Reason.Driver))))
@@ -229,7 +231,7 @@ module _ (s : Start) where
   ready-state State.Estopped p q = p
 
   -- the checks of acquire ask for a runtime that is ready, and a used axis
-  grantable : (r : LeaseRequest) (now : ℕ) (b : Book) → first_failing (acquire_checks r now b) ≡ none
+  grantable : (r : LeaseRequest) (now : ℕ) (b : Book) → first_failing (acquire_checks r now b) ≡ None
       → (is_ready b.state ≡ true) × (axis_used b.capabilities r.resource ≡ true)
   unfolding acquire_checks ready valid_request
   grantable r now b e =
@@ -244,24 +246,24 @@ module _ (s : Start) where
   end-grant : (r : LeaseRequest) (now : ℕ) (l : Log) (b : Book) → Tidy s b → OnTime now b → (o : Option Reason) → first_failing (acquire_checks r now b) ≡ o
       → Safe (Seen s) End l (grant o r now b)
   unfolding grant acquire_checks new_lease
-  end-grant r now l b h time (some reason) e = (h, other reason (ready-other now b _ reason time refl e))
-  end-grant r now l b h time none e =
+  end-grant r now l b h time (Some reason) e = (h, other reason (ready-other now b _ reason time refl e))
+  end-grant r now l b h time None e =
       let g = grantable r now b e in
       let on = subst (λ cs. axis_used cs r.resource ≡ true) h.0.0.0.capabilities g.1 in
       end-leased r.resource _ Reason.LeaseGranted now l _ (tidy-granted s (new_lease r b.next_lease now) b g.0 on h.0.0.0)
 
   end-extend : (r : Renewal) (axis : Option ℕ) (x : Option Lease) (l : Log) (b : Book) → lease_on axis b ≡ x → Tidy s b → Safe (Seen s) End l (extend r axis x b)
   unfolding extend lease_on
-  end-extend r none x l b e h = (h, other Reason.Authority refl)
-  end-extend r (some axis) none l b e h = (h, other Reason.Authority refl)
-  end-extend r (some axis) (some x) l b e h =
+  end-extend r None x l b e h = (h, other Reason.Authority refl)
+  end-extend r (Some axis) None l b e h = (h, other Reason.Authority refl)
+  end-extend r (Some axis) (Some x) l b e h =
       end-leased axis _ Reason.LeaseRenewed r.now l _ (tidy-replaced s axis x (extended r x) b e h)
 
   end-renewed : (r : Renewal) (l : Log) (b : Book) → Tidy s b → OnTime r.now b → (o : Option Reason) → first_failing (renew_checks r b) ≡ o
       → Safe (Seen s) End l (renewed o r b)
   unfolding renewed renew_checks held_lease
-  end-renewed r l b h time (some reason) e = (h, other reason (ready-other r.now b _ reason time refl e))
-  end-renewed r l b h time none e = end-extend r (held_axis r.owner r.lease_id b) _ l b refl h
+  end-renewed r l b h time (Some reason) e = (h, other reason (ready-other r.now b _ reason time refl e))
+  end-renewed r l b h time None e = end-extend r (held_axis r.owner r.lease_id b) _ l b refl h
 
   -- ---- submit
 
@@ -293,8 +295,8 @@ module _ (s : Start) where
   end-verify : (o : Submission) (c : Capability) (end before : ℕ) (l : Log) (b : Book) (seen : Option Observation) → Tidy s b
       → Safe (Seen s) End l (verify c end before o b seen)
   unfolding verify
-  end-verify o c end before l b none h = end-fail o c Reason.Driver _ l b h
-  end-verify o c end before l b (some seen) h = go (verified c.verification o.action.parameters seen)
+  end-verify o c end before l b None h = end-fail o c Reason.Driver _ l b h
+  end-verify o c end before l b (Some seen) h = go (verified c.verification o.action.parameters seen)
     where
       p : Progress
       p = record { dispatched = true; pre_state = before; executed_at = o.now; observed_valid = true; observed = seen.parameters; post_state = seen.state }
@@ -306,8 +308,8 @@ module _ (s : Start) where
   end-dispatch : (o : Submission) (c : Capability) (end : ℕ) (l : Log) (b : Book) (seen : Option Observation) → Tidy s b
       → Safe (Seen s) End l (dispatch c end o b seen)
   unfolding dispatch
-  end-dispatch o c end l b none h = end-fail o c _ not_sent l b h
-  end-dispatch o c end l b (some seen) h = ((h.0.0, tt), go)
+  end-dispatch o c end l b None h = end-fail o c _ not_sent l b h
+  end-dispatch o c end l b (Some seen) h = ((h.0.0, tt), go)
     where
       p : Progress
       p = record { dispatched = true; pre_state = seen.state; executed_at = 0; observed_valid = false; observed = not_sent.observed; post_state = 0 }
@@ -321,10 +323,10 @@ module _ (s : Start) where
       → first_failing (admission o b) ≡ r → order_capability o b ≡ c → order_lease o b ≡ x → Tidy s b → OnTime o.now b
       → Safe (Seen s) End l (admit (verdict r c x) o b)
   unfolding admit verdict admission consumed with_replay
-  end-verdict o (some reason) c x l b e known held h time = end-reject o reason l b (ready-other o.now b _ reason time refl e) h
-  end-verdict o none none x l b e known held h time = end-reject o Reason.UnknownCapability l b refl h
-  end-verdict o none (some c) none l b e known held h time = end-reject o Reason.Authority l b refl h
-  end-verdict o none (some c) (some x) l b e known held h time =
+  end-verdict o (Some reason) c x l b e known held h time = end-reject o reason l b (ready-other o.now b _ reason time refl e) h
+  end-verdict o None None x l b e known held h time = end-reject o Reason.UnknownCapability l b refl h
+  end-verdict o None (Some c) None l b e known held h time = end-reject o Reason.Authority l b refl h
+  end-verdict o None (Some c) (Some x) l b e known held h time =
       let h' = tidy-replaced s c.resource x (with_sequence o.action.sequence x) b (sym (lease-on o b c known) ∙ held) h in
       ((h'.0.0, tt), λ seen. end-dispatch o c (stream_end x o) _ (consumed c x o b) seen h')
 

@@ -3,7 +3,9 @@ use Prim.Native.Nat.{ℕ, ◌≤◌}
 use mathlib.Core.Bool.{true, false}
 use mathlib.Core.List.{◌∷◌}
 use mathlib.Core.Logic.{inl, inr, ◌≢◌}
-use mathlib.Core.Option.{Option, some, none, none-ne-some, some-injective}
+use Rattle.std.specs.Prelude.{Option, Some, None}
+use Rattle.std.proofs.lemmas.Option.{none-some}
+use Rattle.model.proofs.Options.{some-injective}
 use mathlib.Core.Path.{◌≡◌, refl, subst}
 use native.Mathlib.Omega.{arith}
 use Rattle.model.specs.declared.Lease.{Lease}
@@ -43,22 +45,22 @@ module _ (s : Start) where
   tidy-at : (h : History) (b : Book) → phase_after s h ≡ Idle b → Tidy s b
   tidy-at h b e = subst (λ p. SafePhase s AtRest (Seen s) (End s) (log_of s h) p) e (kept-always h)
 
-  good-in : (l : Log) (p : Phase) (b : Book) → SafePhase s AtRest (Seen s) (End s) l p → book_in p ≡ some b → Good s b
+  good-in : (l : Log) (p : Phase) (b : Book) → SafePhase s AtRest (Seen s) (End s) l p → book_in p ≡ Some b → Good s b
   unfolding book_in
-  good-in l (Starting own axis rest good) b h e = absurd (none-ne-some b e)
-  good-in l Gone b h e = absurd (none-ne-some b e)
+  good-in l (Starting own axis rest good) b h e = absurd (none-some b e)
+  good-in l Gone b h e = absurd (none-some b e)
   good-in l (Idle a) b h e = subst (λ x. Good s x) (some-injective _ _ e) h.0.0
   good-in l (Waiting w) b h e = subst (λ x. Good s x) (some-injective _ _ e) (at-wait (Seen s) (End s) l w h).0
 
-  good-at : (h : History) (b : Book) → book_in (phase_after s h) ≡ some b → Good s b
+  good-at : (h : History) (b : Book) → book_in (phase_after s h) ≡ Some b → Good s b
   good-at h b e = good-in (log_of s h) (phase_after s h) b (kept-always h) e
 
-  used-at : (b : Book) → Good s b → (axis : ℕ) → lease_at b axis ≢ none → axis_used b.capabilities axis ≡ true
+  used-at : (b : Book) → Good s b → (axis : ℕ) → lease_at b axis ≢ None → axis_used b.capabilities axis ≡ true
   used-at b h axis n = rw h.0.capabilities (go (lease_at b axis) refl)
     where
       go : (o : Option Lease) → lease_at b axis ≡ o → axis_used s.capabilities axis ≡ true
-      go none e = absurd (n e)
-      go (some x) e = h.0.used axis x e
+      go None e = absurd (n e)
+      go (Some x) e = h.0.used axis x e
 
   stamp-at : (b : Book) → Good s b → exhausted b ≡ false → b.state_at ≤ b.last_tick
   unfolding exhausted
@@ -75,7 +77,7 @@ module _ (s : Start) where
       apart e = let z : ◌≡◌ {A = ℕ} 0 1 = cc in omega arith
   no_record r (inr h) = h.2.1
 
-  one-receipt : (h : History) (b : Book) → book_in (phase_after s h) ≡ some b → (i : Input) (b' : Book) → book_in (phase_after s (i ∷ h)) ≡ some b'
+  one-receipt : (h : History) (b : Book) → book_in (phase_after s h) ≡ Some b → (i : Input) (b' : Book) → book_in (phase_after s (i ∷ h)) ≡ Some b'
       → KeepsOne (output_after s (i ∷ h)) b.receipts b'.receipts
   unfolding output_after log_of
   one-receipt h b e i b' e' =

@@ -4,7 +4,7 @@ use Prim.Native.Nat.{ℕ, ◌-◌, ◌≤◌}
 use mathlib.Core.Bool.{Bool, true, false, cond, ◌&&◌, false≢true, true≢false}
 use mathlib.Core.List.{List, [], ◌∷◌}
 use mathlib.Core.Logic.{◌≢◌}
-use mathlib.Core.Option.{Option, some, none}
+use Rattle.std.specs.Prelude.{Option, Some, None}
 use mathlib.Core.Path.{◌≡◌, refl, sym, ap, ◌∙◌}
 use native.Mathlib.Omega.{arith}
 use borrow.Author.Tests.{ltb-true, ltb-false}
@@ -177,8 +177,8 @@ module _ (s : Start) (D : Log → Book → Answer → Type 0) where
     after-due : (o : Option Reason) (axis now : ℕ) (l : Log) (b : Book) (next : Book → Interaction) → Calm s b × T b
         → ((l' : Log) (b' : Book) → Calm s b' × T b' → Safe (Seen s) D l' (next b')) → Safe (Seen s) D l (fallback_if o axis now b next)
     unfolding fallback_if
-    after-due none axis now l b next h f = f l b h
-    after-due (some reason) axis now l b next h f = after-fallback-or-trip axis reason now l b next h f
+    after-due None axis now l b next h f = f l b h
+    after-due (Some reason) axis now l b next h f = after-fallback-or-trip axis reason now l b next h f
 
     after-expiries : (is : List ℕ) (now : ℕ) (l : Log) (b : Book) (next : Book → Interaction) → Calm s b × T b
         → ((l' : Log) (b' : Book) → Calm s b' × T b' → Safe (Seen s) D l' (next b')) → Safe (Seen s) D l (expiries is now b next)

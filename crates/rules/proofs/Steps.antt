@@ -2,7 +2,7 @@
 use Prim.Native.Nat.{ℕ}
 use mathlib.Core.Bool.{Bool, true, false}
 use mathlib.Core.List.{List, [], ◌∷◌, ◌++◌}
-use mathlib.Core.Option.{Option, some, none}
+use Rattle.std.specs.Prelude.{Option, Some, None}
 use mathlib.Core.Path.{◌≡◌, refl}
 use lib.IntN.{ℤ}
 use Rattle.model.specs.declared.Observation.{Observation}
@@ -107,8 +107,8 @@ start-step s axis rest good Recorded = stays record { phase = refl; log = λ l. 
 -- a reading
 read_step : (p : Phase) (q : Reading) (o : Option Book) → book_in p ≡ o → Stays p (Reads q)
 unfolding react apply effect shown handed took_effect arrived logged opened
-read_step p q none e = record { phase = refl; log = λ l. rw e; book = λ b old. refl }
-read_step p q (some b) e = record { phase = refl; log = λ l. rw e; book = λ b old. refl }
+read_step p q None e = record { phase = refl; log = λ l. rw e; book = λ b old. refl }
+read_step p q (Some b) e = record { phase = refl; log = λ l. rw e; book = λ b old. refl }
 
 pub step : (p : Phase) (i : Input) → Step p i
 unfolding react apply effect called replied handed took_effect arrived logged opened

@@ -3,7 +3,7 @@ use Prim.Native.Nat.{ℕ}
 use mathlib.Core.Bool.{Bool, true, false, cond, ◌||◌}
 use mathlib.Core.List.{List, [], ◌∷◌, ◌++◌}
 use mathlib.Core.Logic.{◌⊎◌, inl, inr, ⊎_elim, ◌≢◌}
-use mathlib.Core.Option.{Option, some, none}
+use Rattle.std.specs.Prelude.{Option, Some, None}
 use mathlib.Core.Path.{◌≡◌, refl, sym, ap, ◌∙◌, subst}
 use native.Mathlib.Omega.{arith}
 use lib.Dec.{eqb}
@@ -70,17 +70,17 @@ estop-lasts =
 -- ---- what the calls find in a halted book
 
 pub fails-unready : (now : ℕ) (b : Book) (cs : List Check) → Unready b.state
-    → (reason : Reason) × (first_failing (ready now b ++ cs) ≡ some reason)
+    → (reason : Reason) × (first_failing (ready now b ++ cs) ≡ Some reason)
 unfolding first_failing ready is_estopped is_faulted
 fails-unready now b cs = go b.state refl
   where
-    go : (x : RuntimeState) → b.state ≡ x → Unready x → (reason : Reason) × (first_failing (ready now b ++ cs) ≡ some reason)
+    go : (x : RuntimeState) → b.state ≡ x → Unready x → (reason : Reason) × (first_failing (ready now b ++ cs) ≡ Some reason)
     go State.SafeIdle e h = absurd h
     go State.Armed e h = absurd h
     go State.Faulted e h = (Reason.Faulted, rw e)
     go State.Estopped e h = (Reason.Estop, rw e)
 
-none-held : (owner id : ℕ) (b : Book) (is : List ℕ) → NoLease b → axis_held owner id b is ≡ none
+none-held : (owner id : ℕ) (b : Book) (is : List ℕ) → NoLease b → axis_held owner id b is ≡ None
 unfolding axis_held holds_of
 none-held owner id b [] h = refl
 none-held owner id b (axis ∷ is) h = rw (h axis) (none-held owner id b is h)
@@ -140,7 +140,7 @@ module _ (N : RuntimeState → Type 0) (n : Lasting N) (E : Book → Answer → 
       }
 
   refused : (now : ℕ) (b : Book) (cs : List Check) (next : Option Reason → Interaction) (l : Log) → Still l b
-      → ((reason : Reason) → Safe (Waits N) End l (next (some reason))) → Safe (Waits N) End l (next (first_failing (ready now b ++ cs)))
+      → ((reason : Reason) → Safe (Waits N) End l (next (Some reason))) → Safe (Waits N) End l (next (first_failing (ready now b ++ cs)))
   refused now b cs next l h f = let k = fails-unready now b cs (n.unready b.state h.1.0) in rw k.1 (f k.0)
 
   halts-cancel : (owner id now : ℕ) (l : Log) (b : Book) → Still l b → Safe (Waits N) End l (canceled (held_axis owner id b) now b)
@@ -219,8 +219,8 @@ answers-none p (Replies r) st a e = let l = subst (λ out. logged (Replies r) ou
 answers-none p (Reads q) st a e = go (book_in p) e
   where
     go : (o : Option Book) → shown q o ≢ Answers a
-    go none f = clash (cc)
-    go (some b) f = clash (cc)
+    go None f = clash (cc)
+    go (Some b) f = clash (cc)
 
 module _ (N : RuntimeState → Type 0) (E : Book → Answer → Type 0) where
   -- no execute item comes out; and the call has ended as it should, or it has not and rests
@@ -329,11 +329,11 @@ blocked-stopped p h =
     rests-less InEstop Unready (Unlifted InEstop) Lifted estop-lasts.unready
     (λ b a k. inr ((estop-lasts.unready b.state k.0.0, k.0.1), k.1)) p h
 
-same-book : {a b : Book} → some a ≡ some b → a ≡ b
+same-book : {a b : Book} → Some a ≡ Some b → a ≡ b
 same-book e = cc
 
 -- where it is blocked in Estopped, readings see Estopped
-shows-estopped : (p : Phase) → Blocked InEstop p → (b : Book) → book_in p ≡ some b → b.state ≡ State.Estopped
+shows-estopped : (p : Phase) → Blocked InEstop p → (b : Book) → book_in p ≡ Some b → b.state ≡ State.Estopped
 unfolding book_in wait_book
 shows-estopped (Starting s axis rest good) h b e = absurd h
 shows-estopped Gone h b e = absurd h

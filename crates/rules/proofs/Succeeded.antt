@@ -4,7 +4,7 @@ use Prim.Native.Nat.{ℕ}
 use mathlib.Core.Bool.{Bool, true, false, cond, ◌&&◌, ◌||◌, false≢true}
 use mathlib.Core.List.{List, [], ◌∷◌}
 use mathlib.Core.Logic.{inl, inr}
-use mathlib.Core.Option.{Option, some, none}
+use Rattle.std.specs.Prelude.{Option, Some, None}
 use mathlib.Core.Path.{◌≡◌, refl}
 use borrow.Author.Tests.{ltb-false, leb-false}
 use lib.Dec.{ltb}
@@ -81,8 +81,8 @@ tripped-not now b w =
 succeeded-cancel : {rs : List Reply} {is : List Item} {b' : Book} (axis : Option ℕ) (owner id now : ℕ) (b : Book) → held_axis owner id b ≡ axis
     → Runs (canceled axis now b) rs is (Done b' Succeeded) → Well (Cancel owner id now) b rs
 unfolding canceled
-succeeded-cancel none owner id now b e w = absurd (false≢true (let e = (at-end w).answer in cc))
-succeeded-cancel {rs} {is} {b'} (some axis) owner id now b e w =
+succeeded-cancel None owner id now b e w = absurd (false≢true (let e = (at-end w).answer in cc))
+succeeded-cancel {rs} {is} {b'} (Some axis) owner id now b e w =
     let k = fell axis Reason.Canceled now b _ w in
     (by-cancel e, rw k.replies (go k.ok _ k.left))
   where
@@ -118,8 +118,8 @@ module _ (x : Exchange) (before after : Book) where
   succeeds c e (cancels {owner = owner} {id = id} {now = now}) w =
       after-tick _ now _ e of-cancel w (λ o. succeeded-cancel _ owner id now o.book refl o.left)
 
-pub succeeded : (s : Start) (h : History) (x : Exchange) (b : Book) → output_after s h ≡ Answers Succeeded → current (log_of s h) ≡ some x
-    → book_before s h ≡ some b → Succeeds x b
+pub succeeded : (s : Start) (h : History) (x : Exchange) (b : Book) → output_after s h ≡ Answers Succeeded → current (log_of s h) ≡ Some x
+    → book_before s h ≡ Some b → Succeeds x b
 succeeded s h x b out e f =
     let at = ended s h x b e f Succeeded out in
     succeeds x b at.book x.call refl (suits x.call b at.run) at.run

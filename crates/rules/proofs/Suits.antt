@@ -5,7 +5,7 @@ use lib.IntN.{ℤ}
 use mathlib.Core.Bool.{Bool, true, false, false≢true, cond, not, ◌&&◌, ◌||◌}
 use mathlib.Core.List.{List, [], ◌∷◌, ◌++◌}
 use mathlib.Core.Logic.{◌≢◌, ◌⊎◌, inl, inr, ⊎_elim}
-use mathlib.Core.Option.{Option, some, none}
+use Rattle.std.specs.Prelude.{Option, Some, None}
 use mathlib.Core.Path.{◌≡◌, refl, sym, ap, ◌∙◌}
 use lib.Dec.{ltb, eqb}
 use Rattle.model.specs.declared.Capability.{Capability}
@@ -104,24 +104,24 @@ tree-recover now b =
 
 tree-grant : (f : Option Reason) (q : LeaseRequest) (now : ℕ) (b : Book) → Tree (Acquire q now) (grant f q now b)
 unfolding grant leased record_receipt numbered event is_rejected
-tree-grant (some reason) q now b = ends (refl, acquires-not)
-tree-grant none q now b = records refl (ends (refl, acquires))
+tree-grant (Some reason) q now b = ends (refl, acquires-not)
+tree-grant None q now b = records refl (ends (refl, acquires))
 
 tree-extend : (q : Renewal) (axis : Option ℕ) (l : Option Lease) (b : Book) → Tree (Renew q) (extend q axis l b)
 unfolding extend leased record_receipt numbered event is_rejected
-tree-extend q none l b = ends (refl, renews-not)
-tree-extend q (some axis) none b = ends (refl, renews-not)
-tree-extend q (some axis) (some l) b = records refl (ends (refl, renews))
+tree-extend q None l b = ends (refl, renews-not)
+tree-extend q (Some axis) None b = ends (refl, renews-not)
+tree-extend q (Some axis) (Some l) b = records refl (ends (refl, renews))
 
 tree-renewed : (f : Option Reason) (q : Renewal) (b : Book) → Tree (Renew q) (renewed f q b)
 unfolding renewed
-tree-renewed (some reason) q b = ends (refl, renews-not)
-tree-renewed none q b = tree-extend q _ _ b
+tree-renewed (Some reason) q b = ends (refl, renews-not)
+tree-renewed None q b = tree-extend q _ _ b
 
 tree-canceled : (axis : Option ℕ) (owner id now : ℕ) (b : Book) → Tree (Cancel owner id now) (canceled axis now b)
 unfolding canceled
-tree-canceled none owner id now b = ends (refl, cancels-not)
-tree-canceled (some axis) owner id now b =
+tree-canceled None owner id now b = ends (refl, cancels-not)
+tree-canceled (Some axis) owner id now b =
     follows-fallback of-fallback axis Reason.Canceled now b
     (λ ok b'. either ok (ends (refl, cancels)) (follows-trip of-fallback now (λ b''. ends (refl, cancels-not)) Reason.Driver b'))
 
@@ -226,7 +226,7 @@ module _ (c : Capability) (o : Submission) where
       → Runs (fail c reason p o b) rs is v → Tells o is v
   unfolding fail record_receipt numbered order_receipt is_rejected
   tells-fail {v} reason p b w =
-      tells-record o refl (λ rs is w. tells-rest o _ (of-order o (some c) Decision.Failed reason 0 p b _ (inr (inr refl))) refl
+      tells-record o refl (λ rs is w. tells-rest o _ (of-order o (Some c) Decision.Failed reason 0 p b _ (inr (inr refl))) refl
       (follows-trip (λ r e. e) o.now (λ b. ends (refl, refl)) reason _) v w) w
 
   tells-complete : {v : Interaction} {rs : List Reply} {is : List Item} (end : ℕ) (p : Progress) (b : Book)
@@ -234,13 +234,13 @@ module _ (c : Capability) (o : Submission) where
   unfolding complete record_receipt numbered order_receipt is_rejected
   tells-complete {v} end p b w =
       tells-record o refl
-      (λ rs is w. tells-rest o _ (of-order o (some c) Decision.Executed Reason.Ok 0 p b _ (inl refl)) refl (ends (refl, refl)) v w) w
+      (λ rs is w. tells-rest o _ (of-order o (Some c) Decision.Executed Reason.Ok 0 p b _ (inl refl)) refl (ends (refl, refl)) v w) w
 
   tells-verify : {v : Interaction} {rs : List Reply} {is : List Item} (end before : ℕ) (b : Book) (seen : Option Observation)
       → Runs (verify c end before o b seen) rs is v → Tells o is v
   unfolding verify
-  tells-verify end before b none w = tells-fail _ _ b w
-  tells-verify {v} {rs} {is} end before b (some seen) w = go _ (verified c.verification o.action.parameters seen) w
+  tells-verify end before b None w = tells-fail _ _ b w
+  tells-verify {v} {rs} {is} end before b (Some seen) w = go _ (verified c.verification o.action.parameters seen) w
     where
       go : (p : Progress) (t : Bool) → Runs (cond t (complete c end p o b) (fail c Reason.Verification p o b)) rs is v → Tells o is v
       go p true w = tells-complete end p b w
@@ -253,8 +253,8 @@ module _ (c : Capability) (o : Submission) where
   tells-dispatch : {v : Interaction} {rs : List Reply} {is : List Item} (end : ℕ) (b : Book) (seen : Option Observation)
       → Runs (dispatch c end o b seen) rs is v → Tells o is v
   unfolding dispatch
-  tells-dispatch end b none w = tells-fail _ _ b w
-  tells-dispatch {v} end b (some seen) w = tells-execute o (λ ok rs is w. go ok _ rs is w) w
+  tells-dispatch end b None w = tells-fail _ _ b w
+  tells-dispatch {v} end b (Some seen) w = tells-execute o (λ ok rs is w. go ok _ rs is w) w
     where
       go : (ok : Bool) (p : Progress) (rs : List Reply) (is : List Item)
           → Runs (cond ok (Observe c.resource b (verify c end seen.state o b)) (fail c Reason.Driver p o b)) rs is v → Tells o is v

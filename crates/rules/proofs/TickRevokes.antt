@@ -3,7 +3,7 @@ use Prim.Native.Nat.{ℕ, ◌-◌, ◌<◌, ◌≤◌}
 use mathlib.Core.Bool.{Bool, true, false}
 use mathlib.Core.List.{List, [], ◌∷◌, reverse}
 use mathlib.Core.Logic.{◌⊎◌, inl, inr, ◌≢◌}
-use mathlib.Core.Option.{Option, some, none}
+use Rattle.std.specs.Prelude.{Option, Some, None}
 use mathlib.Core.Path.{◌≡◌, refl, sym, ap, ◌∙◌}
 use native.Mathlib.Omega.{arith}
 use Rattle.model.specs.declared.Lease.{Lease}
@@ -31,7 +31,7 @@ use Rattle.rules.proofs.StateRules.{Seen, Ticked, Supervised, after-tick}
 
 -- the lease of an axis now, given the one of before
 abbrev Axis : ℕ → Option Lease → Log → Option Lease → Type 0
-Axis i was l now = (now ≡ was) ⊎ ((now ≡ none) × ((r : Reason) × Mem (Handed (ItemFallback i r)) l))
+Axis i was l now = (now ≡ was) ⊎ ((now ≡ None) × ((r : Reason) × Mem (Handed (ItemFallback i r)) l))
 
 abbrev Stood : Book → Log → Book → Type 0
 Stood before l b = (i : ℕ) → Axis i (lease_at before i) l (lease_at b i)
@@ -47,7 +47,7 @@ stood-fallen : (before : Book) (axis : ℕ) (reason : Reason) (l : Log) (b : Boo
     → Stood before (Handed (ItemFallback axis reason) ∷ l) (cleared axis b)
 unfolding cleared bump_epoch with_epoch with_leases with_active
 stood-fallen before axis reason l b h i =
-    at_set none (Axis i (lease_at before i) (Handed (ItemFallback axis reason) ∷ l)) b.leases axis none i
+    at_set None (Axis i (lease_at before i) (Handed (ItemFallback axis reason) ∷ l)) b.leases axis None i
     (λ e. inr (refl, (reason, inl (ap (λ (j : ℕ). Handed (ItemFallback j reason)) e))))
     (λ m. longer _ before l b h i)
 
@@ -87,22 +87,22 @@ leaves s now b h = after-tick s (Leaves s now b) now [] b _ h (λ l b' h' k. (h'
 
 -- ---- what that says of a lease
 
-stood-before : (i : ℕ) (was : Option Lease) (l : Log) (o : Option Lease) (x : Lease) → Axis i was l o → o ≡ some x → was ≡ some x
+stood-before : (i : ℕ) (was : Option Lease) (l : Log) (o : Option Lease) (x : Lease) → Axis i was l o → o ≡ Some x → was ≡ Some x
 stood-before i was l o x (inl q) e = sym q ∙ e
 stood-before i was l o x (inr n) e = not-both n.0 e
 
-fallen : (i : ℕ) (was : Option Lease) (l : Log) (o : Option Lease) → Axis i was l o → was ≢ none → o ≡ none → (r : Reason) × Mem (Handed (ItemFallback i r)) l
+fallen : (i : ℕ) (was : Option Lease) (l : Log) (o : Option Lease) → Axis i was l o → was ≢ None → o ≡ None → (r : Reason) × Mem (Handed (ItemFallback i r)) l
 fallen i was l o (inl q) n e = absurd (n (sym q ∙ e))
 fallen i was l o (inr m) n e = m.1
 
 still-none : (before : Book) (l : Log) (b : Book) → Stood before l b → NoLease before → NoLease b
 still-none before l b h empty i = go (h i)
   where
-    go : Axis i (lease_at before i) l (lease_at b i) → lease_at b i ≡ none
+    go : Axis i (lease_at before i) l (lease_at b i) → lease_at b i ≡ None
     go (inl e) = e ∙ empty i
     go (inr n) = n.0
 
-unexpired-at : (now : ℕ) (o : Option Lease) (x : Lease) → o ≡ some x → Unexpired now o → now < x.expires_at
+unexpired-at : (now : ℕ) (o : Option Lease) (x : Lease) → o ≡ Some x → Unexpired now o → now < x.expires_at
 unfolding Unexpired
 unexpired-at now o x e h = rw e at h
 
@@ -132,7 +132,7 @@ module _ (s : Start) (now : ℕ) (before after : Book) (tidy : Tidy s before) (l
       early : before.last_tick ≤ now → ⊥
       early k = omega arith
 
-  unexpired : (axis : ℕ) (x : Lease) → lease_at after axis ≡ some x → now < x.expires_at
+  unexpired : (axis : ℕ) (x : Lease) → lease_at after axis ≡ Some x → now < x.expires_at
   unexpired axis x e =
       let up = armed-ready after (armed-by s after calm (axis, x, e)) in
       unexpired-at now (lease_at after axis) x e ((settled up).fresh axis (mem-reverse axis axes [] (inl (on-axis s after calm.0.0 axis x e))))

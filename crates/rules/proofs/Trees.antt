@@ -4,7 +4,7 @@ use Prim.Native.Nat.{ℕ, ◌-◌}
 use mathlib.Core.Bool.{Bool, true, false, cond, ◌&&◌}
 use mathlib.Core.List.{List, [], ◌∷◌, ◌++◌}
 use mathlib.Core.Logic.{inl, inr}
-use mathlib.Core.Option.{Option, some, none}
+use Rattle.std.specs.Prelude.{Option, Some, None}
 use mathlib.Core.Path.{◌≡◌, refl, ap, subst}
 use lib.Dec.{ltb}
 use Rattle.model.specs.declared.Decision.TheVariants as Decision
@@ -65,8 +65,8 @@ module _ {Q : Receipt → Type 0} {E : Book → Answer → Interaction → Type 
     follows-fallback_if : (due : Option Reason) (axis : ℕ) (b : Book)
         → Follows Q E (fallback_if due axis now b f) (fallback_if due axis now b g)
     unfolding fallback_if
-    follows-fallback_if none axis b = next b
-    follows-fallback_if (some reason) axis b = follows-fallback-or-trip axis reason b
+    follows-fallback_if None axis b = next b
+    follows-fallback_if (Some reason) axis b = follows-fallback-or-trip axis reason b
 
     follows-watchdog : (b : Book) → Follows Q E (watchdog now b f) (watchdog now b g)
     unfolding watchdog

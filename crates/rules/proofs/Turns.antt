@@ -3,7 +3,9 @@ use Prim.Native.Nat.{ℕ}
 use mathlib.Core.Bool.{Bool, true, false, false≢true}
 use mathlib.Core.List.{List, [], ◌∷◌, ◌++◌, append-nil}
 use mathlib.Core.Logic.{inl, inr}
-use mathlib.Core.Option.{Option, some, none, none-ne-some, some-ne-none, some-injective}
+use Rattle.std.specs.Prelude.{Option, Some, None}
+use Rattle.std.proofs.lemmas.Option.{none-some}
+use Rattle.model.proofs.Options.{some-ne-none, some-injective}
 use mathlib.Core.Path.{◌≡◌, refl, sym, ap, ◌∙◌, subst}
 use Rattle.model.specs.declared.Reason.TheVariants.{Startup}
 use Rattle.rules.specs.Book.{Book}
@@ -25,7 +27,7 @@ proceeds (Execute c p b k) l = refl
 proceeds (Fallback axis r b k) l = refl
 proceeds (Record r b k) l = refl
 
-goes_on : (s : Start) (axes : List ℕ) (good : Bool) (l : Log) → awaited l ≡ none
+goes_on : (s : Start) (axes : List ℕ) (good : Bool) (l : Log) → awaited l ≡ None
     → awaited (handed (start_from s axes good).output ++ l) ≡ awaited_in (start_from s axes good).phase
 unfolding start_from handed awaited
 goes_on s (axis ∷ rest) good l e = refl
@@ -51,8 +53,8 @@ unfolding log_of phase_after start start_unless awaited handed
 stands s [] = go (refused_start s)
   where
     go : (r : Option ℕ) → awaited (handed (start_unless r s).output) ≡ awaited_in (start_unless r s).phase
-    go (some n) = refl
-    go none = first-item s (used_axes s.capabilities)
+    go (Some n) = refl
+    go None = first-item s (used_axes s.capabilities)
 stands s (i ∷ past) = stands-step (log_of s past) (phase_after s past) i (step (phase_after s past) i) (stands s past)
 
 -- the newest event is what the newest output hands out
@@ -74,25 +76,25 @@ proceeds-out (Execute c p b k) = inl (_, refl)
 proceeds-out (Fallback axis r b k) = inl (_, refl)
 proceeds-out (Record r b k) = inl (_, refl)
 
-call-taken : (p : Phase) (b : Book) → book_in p ≡ some b → awaited_in p ≡ none → (c : Call) → Proceeds (react p (Calls c)).output
+call-taken : (p : Phase) (b : Book) → book_in p ≡ Some b → awaited_in p ≡ None → (c : Call) → Proceeds (react p (Calls c)).output
 unfolding react apply effect called book_in
-call-taken (Starting s axis rest good) b e n c = absurd (none-ne-some b e)
-call-taken Gone b e n c = absurd (none-ne-some b e)
+call-taken (Starting s axis rest good) b e n c = absurd (none-some b e)
+call-taken Gone b e n c = absurd (none-some b e)
 call-taken (Idle a) b e n c = proceeds-out (begin c a)
 call-taken (Waiting w) b e n c = absurd (some-ne-none _ n)
 
-call-unmet : (p : Phase) → book_in p ≡ none → awaited_in p ≡ none → (c : Call) → (react p (Calls c)).output ≡ NoRuntime
+call-unmet : (p : Phase) → book_in p ≡ None → awaited_in p ≡ None → (c : Call) → (react p (Calls c)).output ≡ NoRuntime
 unfolding react apply effect called book_in
 call-unmet (Starting s axis rest good) e n c = absurd (some-ne-none _ n)
 call-unmet Gone e n c = refl
 call-unmet (Idle b) e n c = absurd (some-ne-none _ e)
 call-unmet (Waiting w) e n c = absurd (some-ne-none _ e)
 
-call-waits : (p : Phase) (i : Item) → awaited_in p ≡ some i → (c : Call) → (react p (Calls c)).output ≡ Reminds 111 i
+call-waits : (p : Phase) (i : Item) → awaited_in p ≡ Some i → (c : Call) → (react p (Calls c)).output ≡ Reminds 111 i
 unfolding react apply effect called
 call-waits (Starting s axis rest good) i e c = ap (Reminds 111) (some-injective _ _ e)
-call-waits Gone i e c = absurd (none-ne-some i e)
-call-waits (Idle b) i e c = absurd (none-ne-some i e)
+call-waits Gone i e c = absurd (none-some i e)
+call-waits (Idle b) i e c = absurd (none-some i e)
 call-waits (Waiting w) i e c = ap (Reminds 111) (some-injective _ _ e)
 
 reads : (p : Phase) (o : Option Book) → book_in p ≡ o → (q : Reading) → (react p (Reads q)).output ≡ shown q o
@@ -131,8 +133,8 @@ unfolding react apply effect replied resumed is_some
 heard-wait w r = rw (resumes w r) (go (resume w r))
   where
     go : (o : Option Interaction) → Heard (is_some o) (item_of w) (apply (Waiting w) (resumed o (item_of w))).output
-    go none = refl
-    go (some t) = effective t
+    go None = refl
+    go (Some t) = effective t
 
 heard-start : (s : Start) (axis : ℕ) (rest : List ℕ) (good : Bool) (r : Reply)
     → Heard (fits (ItemFallback axis Startup) r) (ItemFallback axis Startup) (react (Starting s axis rest good) (Replies r)).output
@@ -142,9 +144,9 @@ heard-start s axis rest good (Observed o) = refl
 heard-start s axis rest good (Executed ok) = refl
 heard-start s axis rest good Recorded = refl
 
-heard : (p : Phase) (i : Item) → awaited_in p ≡ some i → (r : Reply) → Heard (fits i r) i (react p (Replies r)).output
-heard Gone i e r = absurd (none-ne-some i e)
-heard (Idle b) i e r = absurd (none-ne-some i e)
+heard : (p : Phase) (i : Item) → awaited_in p ≡ Some i → (r : Reply) → Heard (fits i r) i (react p (Replies r)).output
+heard Gone i e r = absurd (none-some i e)
+heard (Idle b) i e r = absurd (none-some i e)
 heard (Starting s axis rest good) i e r =
     subst (λ (x : Item). Heard (fits x r) x (react (Starting s axis rest good) (Replies r)).output) (some-injective _ _ e)
     (heard-start s axis rest good r)
@@ -157,24 +159,24 @@ unfolding react apply effect replied resumed is_some
 goes-on-from w r f = go (resume w r) (sym (resumes w r) ∙ f)
   where
     go : (o : Option Interaction) → is_some o ≡ true → Proceeds (apply (Waiting w) (resumed o (item_of w))).output
-    go none e = absurd (false≢true e)
-    go (some t) e = proceeds-out t
+    go None e = absurd (false≢true e)
+    go (Some t) e = proceeds-out t
 
 -- before the first call the start goes on, or has ended
 abbrev BeforeCall : Phase → Option Call → Type 0
-BeforeCall (Starting s axis rest good) c = c ≡ none
-BeforeCall Gone c = c ≡ none
+BeforeCall (Starting s axis rest good) c = c ≡ None
+BeforeCall Gone c = c ≡ None
 BeforeCall (Idle b) c = Unit
 BeforeCall (Waiting w) c = Unit
 
-proceeds-reply : (p : Phase) (i : Item) → awaited_in p ≡ some i → (c : Call) → BeforeCall p (some c) → (r : Reply) → fits i r ≡ true
+proceeds-reply : (p : Phase) (i : Item) → awaited_in p ≡ Some i → (c : Call) → BeforeCall p (Some c) → (r : Reply) → fits i r ≡ true
     → Proceeds (react p (Replies r)).output
-proceeds-reply Gone i e c k r f = absurd (none-ne-some i e)
-proceeds-reply (Idle b) i e c k r f = absurd (none-ne-some i e)
+proceeds-reply Gone i e c k r f = absurd (none-some i e)
+proceeds-reply (Idle b) i e c k r f = absurd (none-some i e)
 proceeds-reply (Starting s axis rest good) i e c k r f = absurd (some-ne-none _ k)
 proceeds-reply (Waiting w) i e c k r f = goes-on-from w r (subst (λ (x : Item). fits x r ≡ true) (sym (some-injective _ _ e)) f)
 
-reply-none : (p : Phase) → awaited_in p ≡ none → (r : Reply) → (react p (Replies r)).output ≡ Refuses 112
+reply-none : (p : Phase) → awaited_in p ≡ None → (r : Reply) → (react p (Replies r)).output ≡ Refuses 112
 unfolding react apply effect replied
 reply-none (Starting s axis rest good) e r = absurd (some-ne-none _ e)
 reply-none Gone e r = refl
@@ -182,7 +184,7 @@ reply-none (Idle b) e r = refl
 reply-none (Waiting w) e r = absurd (some-ne-none _ e)
 
 -- a call in hand shows that the start is over
-calls-none : (out : Output) (l : Log) → call_of l ≡ none → call_of (handed out ++ l) ≡ none
+calls-none : (out : Output) (l : Log) → call_of l ≡ None → call_of (handed out ++ l) ≡ None
 unfolding handed call_of
 calls-none Started l e = e
 calls-none (StartRefused n) l e = e
@@ -193,7 +195,7 @@ calls-none (Refuses n) l e = e
 calls-none (Shows v) l e = e
 calls-none NoRuntime l e = e
 
-starts-on : (s : Start) (axes : List ℕ) (good : Bool) (l : Log) → call_of l ≡ none
+starts-on : (s : Start) (axes : List ℕ) (good : Bool) (l : Log) → call_of l ≡ None
     → BeforeCall (start_from s axes good).phase (call_of (handed (start_from s axes good).output ++ l))
 unfolding start_from
 starts-on s (axis ∷ rest) good l e = calls-none _ l e
@@ -221,8 +223,8 @@ unfolding log_of phase_after start start_unless handed call_of
 before-call s [] = go (refused_start s)
   where
     go : (r : Option ℕ) → BeforeCall (start_unless r s).phase (call_of (handed (start_unless r s).output))
-    go (some n) = refl
-    go none = rw append-nil at (starts-on s (used_axes s.capabilities) true [] refl)
+    go (Some n) = refl
+    go None = rw append-nil at (starts-on s (used_axes s.capabilities) true [] refl)
 before-call s (i ∷ past) = before-step (log_of s past) (phase_after s past) i (step (phase_after s past) i) (before-call s past)
 
 -- ---- every history
@@ -238,8 +240,8 @@ turns s h =
       reply-proceeds = λ i e c call r f. proceeds-reply p i (at e) c (subst (BeforeCall p) call (before-call s h)) r f;
       reply-other = λ i e r f. subst (λ t. Heard t i (react p (Replies r)).output) f (heard p i (at e) r);
       reply-none = λ e. reply-none p (at e);
-      reading = λ b e q. reads p (some b) e q;
-      no-reading = λ e q. reads p none e q;
+      reading = λ b e q. reads p (Some b) e q;
+      no-reading = λ e q. reads p None e q;
     }
   where
     p : Phase

@@ -4,7 +4,7 @@ use Prim.Native.Nat.{ℕ, ◌+◌}
 use mathlib.Core.Bool.{Bool, true, false, cond, not, ◌||◌}
 use mathlib.Core.List.{List, [], ◌∷◌}
 use mathlib.Core.Logic.{◌⊎◌, inl, inr}
-use mathlib.Core.Option.{some}
+use Rattle.std.specs.Prelude.{Some}
 use mathlib.Core.Path.{◌≡◌, refl, sym, ◌∙◌}
 use native.Mathlib.Omega.{arith}
 use borrow.Author.Tests.{eqb-true, le-ltb}
@@ -33,7 +33,7 @@ module _ (s : Start) (flags now : ℕ) where
 
   -- before the flags are set; `late` says whether its time is before the last tick
   abbrev Sensing : Bool → Log → Book → Type 0
-  Sensing late l b = I s l b × (call_of l ≡ some (UpdateState flags now)) × (clock_tripped l ≡ late) × (ltb now b.last_tick ≡ late)
+  Sensing late l b = I s l b × (call_of l ≡ Some (UpdateState flags now)) × (clock_tripped l ≡ late) × (ltb now b.last_tick ≡ late)
 
   -- a fallback for this reason keeps that
   abbrev Silent : Bool → Reason → Type 0
@@ -56,7 +56,7 @@ module _ (s : Start) (flags now : ℕ) where
       }
 
   -- the first item of the trip for Clock
-  late-first : (axis : ℕ) (l : Log) (b : Book) → I s l b → call_of l ≡ some (UpdateState flags now) → ltb now b.last_tick ≡ true
+  late-first : (axis : ℕ) (l : Log) (b : Book) → I s l b → call_of l ≡ Some (UpdateState flags now) → ltb now b.last_tick ≡ true
       → Sensing true (Handed (ItemFallback axis Reason.Clock) ∷ l) (cleared axis b)
   unfolding call_of stops in_force falls_for clock_tripped cleared bump_epoch with_epoch with_leases with_active
   late-first axis l b h call late =
@@ -67,7 +67,7 @@ module _ (s : Start) (flags now : ℕ) where
   -- but not in force
   abbrev Set : Log → Book → Type 0
   Set l b =
-      InvBook s l b × EpochsAs flags (bumps s l + 1) l b × (call_of l ≡ some (UpdateState flags now)) × (clock_tripped l ≡ false)
+      InvBook s l b × EpochsAs flags (bumps s l + 1) l b × (call_of l ≡ Some (UpdateState flags now)) × (clock_tripped l ≡ false)
       × (eqb flags (flags_of s l) ≡ false)
 
   abbrev Taken : Log → Book → Type 0

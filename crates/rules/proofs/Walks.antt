@@ -3,7 +3,7 @@
 use Prim.Native.Nat.{ℕ, ◌-◌}
 use mathlib.Core.Bool.{Bool, true, false, cond, not, ◌&&◌, ◌||◌}
 use mathlib.Core.List.{List, [], ◌∷◌}
-use mathlib.Core.Option.{Option, some, none}
+use Rattle.std.specs.Prelude.{Option, Some, None}
 use lib.Dec.{ltb, leb, eqb}
 use Rattle.model.specs.declared.Reason.{Reason}
 use Rattle.model.specs.declared.Receipt.{Receipt}
@@ -90,8 +90,8 @@ module _ (W : Log → Book → Type 0) (D : Log → Book → Answer → Type 0) 
   fall-if : (o : Option Reason) (axis now : ℕ) (l : Log) (b : Book) (next : Book → Interaction) → J l b → Next next
       → Safe W D l (fallback_if o axis now b next)
   unfolding fallback_if
-  fall-if none axis now l b next h f = f l b h
-  fall-if (some reason) axis now l b next h f = fall-or-trip axis reason now l b next h f
+  fall-if None axis now l b next h f = f l b h
+  fall-if (Some reason) axis now l b next h f = fall-or-trip axis reason now l b next h f
 
   walk-expiries : (is : List ℕ) (now : ℕ) (l : Log) (b : Book) (next : Book → Interaction) → J l b → Next next
       → Safe W D l (expiries is now b next)

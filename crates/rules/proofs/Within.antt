@@ -2,7 +2,7 @@
 use Prim.Native.Nat.{ℕ}
 use mathlib.Core.Bool.{Bool, false}
 use mathlib.Core.List.{◌∷◌, reverse}
-use mathlib.Core.Option.{some}
+use Rattle.std.specs.Prelude.{Some}
 use mathlib.Core.Path.{◌≡◌, refl, ◌∙◌}
 use Rattle.rules.specs.Book.{Book}
 use Rattle.rules.specs.With.{with_last_tick, with_state}
@@ -25,7 +25,7 @@ module _ (s : Start) where
 
   -- the call in hand; if it is an update, its flags are in force
   abbrev Hand : Call → Log → Type 0
-  Hand c l = (call_of l ≡ some c) × (updated (some c) (flags_of s l) ≡ flags_of s l)
+  Hand c l = (call_of l ≡ Some c) × (updated (Some c) (flags_of s l) ≡ flags_of s l)
 
   module _ (c : Call) (l : Log) (b : Book) (h : Hand c l) where
     in-force : updated (call_of l) (flags_of s l) ≡ flags_of s l
@@ -76,7 +76,7 @@ module _ (s : Start) where
 
   -- a call that neither stops, nor polls, nor updates the flags, opens with its tick
   pub inv-tick : (c : Call) (now : ℕ) (l : Log) (b : Book) (next : Book → Interaction) → stops (Took c) l ≡ false
-      → seen_raise (Took c ∷ l) ≡ seen_raise l → ((n : ℕ) → updated (some c) n ≡ n) → I s l b
+      → seen_raise (Took c ∷ l) ≡ seen_raise l → ((n : ℕ) → updated (Some c) n ≡ n) → I s l b
       → ((l' : Log) (b' : Book) → InCall c l' b' → Guarded (Settled now (reverse axes)) b' → Safe (I s) End l' (next b'))
       → Safe (I s) End (Took c ∷ l) (tick now b next)
   unfolding call_of observing dispatching with_state with_last_tick

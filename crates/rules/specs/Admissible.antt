@@ -1,7 +1,7 @@
 -- An order is admissible in a book: the 17 admission checks of 01 as plain facts, in 01's order. A law (proofs/Admission) joins them to
 -- the checks that the rules run.
 use Rattle.std.specs.Prelude.{◌+◌, ◌-◌, ◌^◌, ◌≤◌, ◌<◌, List, [], ◌∷◌, ◌≢◌, ◌≡◌, ℤ, ◌≤ℤ◌}
-use Rattle.std.proofs.Math.Option.{some}
+use Rattle.std.specs.Prelude.{Some}
 use Rattle.std.specs.Int.Bits.{bit_and}
 use Rattle.model.specs.declared.Bounds.{Bounds}
 use Rattle.model.specs.declared.Capability.{Capability}
@@ -36,7 +36,7 @@ pub record Admissible (s : Submission) (b : Book) : Type 0 where
   -- 8 no such capability
   pub known : Named s.action.capability b.capabilities capability
   -- 3 no lease, other id, other owner, capability bit clear
-  pub leased : lease_at b capability.resource ≡ some lease
+  pub leased : lease_at b capability.resource ≡ Some lease
   pub authority :
       (lease.id ≡ s.action.lease_id)
       × ((lease.owner ≡ s.principal) × (bit_and lease.capabilities (2 ^ s.action.capability) ≢ 0))

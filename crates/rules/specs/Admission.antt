@@ -1,6 +1,6 @@
 -- Readiness, and the checks of acquire, renew and submit: lists in 01's order, of which the first that fails gives the reason.
 use Rattle.std.specs.Prelude.{ℕ, ◌+◌, ◌-◌, ◌^◌, Bool, true, false, cond, not, ◌&&◌, ◌||◌, List, [], ◌∷◌, ◌++◌, ltb, leb, eqb, ℤ}
-use Rattle.std.proofs.Math.Option.{Option, some, none}
+use Rattle.std.specs.Prelude.{Option, Some, None}
 use Rattle.std.specs.Int.Bits.{bit_or}
 use Rattle.model.specs.declared.Bounds.{Bounds}
 use Rattle.model.specs.declared.Capability.{Capability}
@@ -29,13 +29,13 @@ check holds reason = record { holds = holds; reason = reason }
 
 -- the reason of the first check that fails
 unfoldable pub first_failing : List Check → Option Reason
-first_failing [] = none
-first_failing (c ∷ cs) = cond c.holds (first_failing cs) (some c.reason)
+first_failing [] = None
+first_failing (c ∷ cs) = cond c.holds (first_failing cs) (Some c.reason)
 
 -- there is such a thing, and it passes the test
 unfoldable pub holds_of : {A : Type 0} → Option A → (A → Bool) → Bool
-holds_of none test = false
-holds_of (some a) test = test a
+holds_of None test = false
+holds_of (Some a) test = test a
 
 -- states -------------------------------------------------------------------------------------------------------------
 
@@ -90,8 +90,8 @@ valid_request r b =
     && (not (bad_duration r.duration_ms b.config.max_lease_ms) && all ordered r.limits)))
 
 unfoldable pub is_free : Option Lease → Bool
-is_free none = true
-is_free (some l) = false
+is_free None = true
+is_free (Some l) = false
 
 -- 01: "`acquire`, after tick: readiness; 10; 3 (a mask bit that no capability of the axis has); 19 taken; 10 expiry past u64"
 unfoldable pub acquire_checks : LeaseRequest → ℕ → Book → List Check
@@ -110,8 +110,8 @@ is_held_by owner id l = eqb l.id id && eqb l.owner owner
 
 -- the first axis, of these, on which this owner has the lease with this id
 unfoldable pub axis_held : ℕ → ℕ → Book → List ℕ → Option ℕ
-axis_held owner id b [] = none
-axis_held owner id b (axis ∷ axes) = cond (holds_of (lease_at b axis) (is_held_by owner id)) (some axis) (axis_held owner id b axes)
+axis_held owner id b [] = None
+axis_held owner id b (axis ∷ axes) = cond (holds_of (lease_at b axis) (is_held_by owner id)) (Some axis) (axis_held owner id b axes)
 
 abbrev pub axes : List ℕ
 axes = 0 ∷ 1 ∷ 2 ∷ 3 ∷ 4 ∷ 5 ∷ 6 ∷ 7 ∷ []
@@ -121,15 +121,15 @@ unfoldable pub held_axis : ℕ → ℕ → Book → Option ℕ
 held_axis owner id b = axis_held owner id b axes
 
 unfoldable pub lease_on : Option ℕ → Book → Option Lease
-lease_on none b = none
-lease_on (some axis) b = lease_at b axis
+lease_on None b = None
+lease_on (Some axis) b = lease_at b axis
 
 unfoldable pub held_lease : ℕ → ℕ → Book → Option Lease
 held_lease owner id b = lease_on (held_axis owner id b) b
 
 unfoldable pub is_some : {A : Type 0} → Option A → Bool
-is_some none = false
-is_some (some a) = true
+is_some None = false
+is_some (Some a) = true
 
 -- 01: "`renew`: tick, readiness, 10 duration, 3 no lease with this id and owner, 6 renewal not above the last one, 10 overflow"
 unfoldable pub renew_checks : Renewal → Book → List Check
@@ -144,16 +144,16 @@ renew_checks r b =
 -- submit -------------------------------------------------------------------------------------------------------------
 
 unfoldable pub with_id : ℕ → List Capability → Option Capability
-with_id id [] = none
-with_id id (c ∷ cs) = cond (eqb c.id id) (some c) (with_id id cs)
+with_id id [] = None
+with_id id (c ∷ cs) = cond (eqb c.id id) (Some c) (with_id id cs)
 
 -- the capability that an order names, and the lease that stands on its axis
 unfoldable pub order_capability : Submission → Book → Option Capability
 order_capability s b = with_id s.action.capability b.capabilities
 
 unfoldable pub lease_for : Option Capability → Book → Option Lease
-lease_for none b = none
-lease_for (some c) b = lease_at b c.resource
+lease_for None b = None
+lease_for (Some c) b = lease_at b c.resource
 
 unfoldable pub order_lease : Submission → Book → Option Lease
 order_lease s b = lease_for (order_capability s b) b
@@ -179,8 +179,8 @@ is_entry owner action e = eqb e.owner owner && eqb e.action_id action
 
 -- the entry of the replay ring with this owner and action id, the newest first
 unfoldable pub find_entry : ℕ → ℕ → List Replay → Option Replay
-find_entry owner action [] = none
-find_entry owner action (e ∷ es) = cond (is_entry owner action e) (some e) (find_entry owner action es)
+find_entry owner action [] = None
+find_entry owner action (e ∷ es) = cond (is_entry owner action e) (Some e) (find_entry owner action es)
 
 unfoldable pub replayed : Submission → Book → Option Replay
 replayed s b = find_entry s.principal s.action.action_id b.replay
@@ -223,10 +223,10 @@ pub data Verdict : Type 0 where
 
 -- where all checks hold there is a capability and a lease; the last two cases don't arise
 unfoldable pub verdict : Option Reason → Option Capability → Option Lease → Verdict
-verdict (some reason) c l = Rejects reason
-verdict none (some c) (some l) = Admits c l
-verdict none (some c) none = Rejects Authority
-verdict none none l = Rejects UnknownCapability
+verdict (Some reason) c l = Rejects reason
+verdict None (Some c) (Some l) = Admits c l
+verdict None (Some c) None = Rejects Authority
+verdict None None l = Rejects UnknownCapability
 
 unfoldable pub validate : Submission → Book → Verdict
 validate s b = verdict (first_failing (admission s b)) (order_capability s b) (order_lease s b)

@@ -1,7 +1,7 @@
 -- What an answer says is what was handed out: each call has its own kind of answer; an order is answered with its receipt, a grant or a
 -- renewal with the lease that stands.
 use Rattle.std.specs.Prelude.{ℕ, ◌+◌, ◌<◌, min, Bool, true, false, List, [], ◌∷◌, ◌++◌, ◌⊎◌, ◌≢◌, ◌↔◌, ◌≡◌, ℤ, set}
-use Rattle.std.proofs.Math.Option.{Option, some, none}
+use Rattle.std.specs.Prelude.{Option, Some, None}
 use Rattle.std.specs.Int.Bits.{bit_and}
 use Rattle.model.specs.declared.Active.{Active}
 use Rattle.model.specs.declared.Capability.{Capability}
@@ -100,7 +100,7 @@ pub record AllFour (x : Exchange) (before : Book) : Type 0 where
   pub known : Named order.action.capability book.capabilities capability
   pub first : Observation
   pub second : Observation
-  pub replies : ticked.later ≡ Observed (some first) ∷ Executed true ∷ Observed (some second) ∷ Recorded ∷ []
+  pub replies : ticked.later ≡ Observed (Some first) ∷ Executed true ∷ Observed (Some second) ∷ Recorded ∷ []
   pub verified : Verified capability.verification order.action.parameters second
 
 -- an order changes the last sequence of its lease, and nothing else of it
@@ -118,9 +118,9 @@ pub record Sequenced (sequence : ℕ) (old new : Lease) : Type 0 where
 -- lease ends; Control clears."
 pub data ActiveSo (c : Capability) (o : Submission) (l : Lease) : ExecutionClass → Option Active → Type 0 where
   stream : {a : Active} → a.capability ≡ c → a.expires_at ≡ min (o.received_at + o.action.valid_for_ms) l.expires_at
-      → ActiveSo c o l Class.Stream (some a)
-  discrete : {a : Active} → a.capability ≡ c → a.expires_at ≡ top → ActiveSo c o l Class.Discrete (some a)
-  control : ActiveSo c o l Class.Control none
+      → ActiveSo c o l Class.Stream (Some a)
+  discrete : {a : Active} → a.capability ≡ c → a.expires_at ≡ top → ActiveSo c o l Class.Discrete (Some a)
+  control : ActiveSo c o l Class.Control None
 
 -- what an Executed order reports, and what it leaves of the book that its tick left; the rest of that is in BookFacts and StateFacts
 pub record Completed (c : Capability) (o : Submission) (first second : Observation) (before after : Book) (r : Receipt) : Type 0 where
@@ -133,10 +133,10 @@ pub record Completed (c : Capability) (o : Submission) (first second : Observati
   pub observed : r.observed ≡ second.parameters
   pub post : r.post_state ≡ second.state
   pub old : Lease
-  pub held : lease_at before c.resource ≡ some old
+  pub held : lease_at before c.resource ≡ Some old
   pub new : Lease
   pub sequenced : Sequenced o.action.sequence old new
-  pub leases : after.leases ≡ set before.leases c.resource (some new)
+  pub leases : after.leases ≡ set before.leases c.resource (Some new)
   pub order : Option Active
   pub active_so : ActiveSo c o old c.class order
   pub active : after.active ≡ set before.active c.resource order
@@ -147,11 +147,11 @@ pub record Completed (c : Capability) (o : Submission) (first second : Observati
 
 -- which of the four failed, by the replies up to the receipt's: 16 where the driver did, 17 where the verification did
 pub data FailedBy (v : Verification) (ps : List ℤ) : List Reply → Reason → Type 0 where
-  unobserved : FailedBy v ps (Observed none ∷ []) Reason.Driver
-  unexecuted : {first : Observation} → FailedBy v ps (Observed (some first) ∷ Executed false ∷ []) Reason.Driver
-  unobserved-after : {first : Observation} → FailedBy v ps (Observed (some first) ∷ Executed true ∷ Observed none ∷ []) Reason.Driver
+  unobserved : FailedBy v ps (Observed None ∷ []) Reason.Driver
+  unexecuted : {first : Observation} → FailedBy v ps (Observed (Some first) ∷ Executed false ∷ []) Reason.Driver
+  unobserved-after : {first : Observation} → FailedBy v ps (Observed (Some first) ∷ Executed true ∷ Observed None ∷ []) Reason.Driver
   unverified : {first second : Observation} → (Verified v ps second → ⊥)
-      → FailedBy v ps (Observed (some first) ∷ Executed true ∷ Observed (some second) ∷ []) Reason.Verification
+      → FailedBy v ps (Observed (Some first) ∷ Executed true ∷ Observed (Some second) ∷ []) Reason.Verification
 
 -- 01: "Otherwise Failed (16 or 17), receipt, trip."
 pub record FailedSo (s : Start) (h : History) (x : Exchange) (before : Book) (r : Receipt) : Type 0 where
@@ -189,7 +189,7 @@ pub data Asked : Call → ℕ → Book → Receipt → Lease → Type 0 where
 
 -- a grant or a renewal changes the lease of its axis, a grant the next number too; the rest is in BookFacts and StateFacts
 pub record LeaseLeft (r : Receipt) (l : Lease) (before after : Book) : Type 0 where
-  pub leases : after.leases ≡ set before.leases r.resource (some l)
+  pub leases : after.leases ≡ set before.leases r.resource (Some l)
   pub active : after.active ≡ before.active
   pub count : after.invalid_count ≡ before.invalid_count
   pub stamp : after.state_at ≡ before.state_at
@@ -211,24 +211,24 @@ pub record LeaseAnswered (s : Start) (h : History) (x : Exchange) (before : Book
   pub owner : receipt.principal ≡ l.owner
   pub book : Book
   pub idle : phase_after s h ≡ Idle book
-  pub stands : lease_at book receipt.resource ≡ some l
+  pub stands : lease_at book receipt.resource ≡ Some l
   pub rest : LeaseLeft receipt l ticked-book book
 
 -- after every history of every start
 pub record AnswerFacts (s : Start) (h : History) : Type 0 where
-  pub kind : (x : Exchange) (a : Answer) → output_after s h ≡ Answers a → current (log_of s h) ≡ some x → AnswersTo x.call a
-  pub order : (x : Exchange) (r : Receipt) → output_after s h ≡ Answers (Submitted r) → current (log_of s h) ≡ some x → OrderAnswered x r
-  pub executed : (x : Exchange) (b : Book) (r : Receipt) → output_after s h ≡ Answers (Submitted r) → current (log_of s h) ≡ some x
-      → book_before s h ≡ some b → (r.decision ≡ Decision.Executed) ↔ AllFour x b
-  pub completed : (x : Exchange) (b : Book) (r : Receipt) → output_after s h ≡ Answers (Submitted r) → current (log_of s h) ≡ some x
-      → book_before s h ≡ some b → (p : AllFour x b)
+  pub kind : (x : Exchange) (a : Answer) → output_after s h ≡ Answers a → current (log_of s h) ≡ Some x → AnswersTo x.call a
+  pub order : (x : Exchange) (r : Receipt) → output_after s h ≡ Answers (Submitted r) → current (log_of s h) ≡ Some x → OrderAnswered x r
+  pub executed : (x : Exchange) (b : Book) (r : Receipt) → output_after s h ≡ Answers (Submitted r) → current (log_of s h) ≡ Some x
+      → book_before s h ≡ Some b → (r.decision ≡ Decision.Executed) ↔ AllFour x b
+  pub completed : (x : Exchange) (b : Book) (r : Receipt) → output_after s h ≡ Answers (Submitted r) → current (log_of s h) ≡ Some x
+      → book_before s h ≡ Some b → (p : AllFour x b)
       → (after : Book) × (phase_after s h ≡ Idle after) × Completed p.capability p.order p.first p.second p.book after r
-  pub failed : (x : Exchange) (b : Book) (r : Receipt) → output_after s h ≡ Answers (Submitted r) → current (log_of s h) ≡ some x
-      → book_before s h ≡ some b → r.decision ≡ Decision.Failed → FailedSo s h x b r
-  pub lease : (x : Exchange) (b : Book) (l : Lease) → output_after s h ≡ Answers (Leased l) → current (log_of s h) ≡ some x
-      → book_before s h ≡ some b → LeaseAnswered s h x b l
+  pub failed : (x : Exchange) (b : Book) (r : Receipt) → output_after s h ≡ Answers (Submitted r) → current (log_of s h) ≡ Some x
+      → book_before s h ≡ Some b → r.decision ≡ Decision.Failed → FailedSo s h x b r
+  pub lease : (x : Exchange) (b : Book) (l : Lease) → output_after s h ≡ Answers (Leased l) → current (log_of s h) ≡ Some x
+      → book_before s h ≡ Some b → LeaseAnswered s h x b l
   -- where all of them hold a lease is granted
-  pub grants : (x : Exchange) (b : Book) (a : Answer) → output_after s h ≡ Answers a → current (log_of s h) ≡ some x → book_before s h ≡ some b
+  pub grants : (x : Exchange) (b : Book) (a : Answer) → output_after s h ≡ Answers a → current (log_of s h) ≡ Some x → book_before s h ≡ Some b
       → (q : LeaseRequest) (now : ℕ) → x.call ≡ Acquire q now → (book : Book) → Ticked now b x book → Grantable q now book
       → (l : Lease) × (a ≡ Leased l)
   -- the numbers of the orders' receipts rise from answer to answer, below the top of 64 bits

@@ -1,6 +1,6 @@
 -- The book (01, "Agreement"): what the rules step, for one life. It holds what 01 names, as values.
 use Rattle.std.specs.Prelude.{ℕ, List, get_or}
-use Rattle.std.proofs.Math.Option.{Option, none}
+use Rattle.std.specs.Prelude.{Option, None}
 use Rattle.model.specs.declared.Config.{Config}
 use Rattle.model.specs.declared.Capability.{Capability}
 use Rattle.model.specs.declared.Lease.{Lease}
@@ -29,7 +29,7 @@ pub record Book : Type 0 where
 
 -- the lease that stands on an axis, and the order that it carries out; none on an axis past the last
 abbrev pub lease_at : Book → ℕ → Option Lease
-lease_at b axis = get_or b.leases axis none
+lease_at b axis = get_or b.leases axis None
 
 abbrev pub active_at : Book → ℕ → Option Active
-active_at b axis = get_or b.active axis none
+active_at b axis = get_or b.active axis None

@@ -1,7 +1,7 @@
 -- The starred cases of 01: one table of histories with what 01 says of each, and one fact about the whole table, which antt computes.
 -- Default configuration, the reference profile, boot 42, start at 0, flags 0.
 use Rattle.std.specs.Prelude.{ℕ, true, List, [], ◌∷◌, ◌++◌, map, ◌≡◌, refl, ℤ, pos, negsuc}
-use Rattle.std.proofs.Math.Option.{Option, some, none}
+use Rattle.std.specs.Prelude.{Option, Some, None}
 use Rattle.model.specs.declared.Bounds.{Bounds}
 use Rattle.model.specs.declared.Decision.{Decision}
 use Rattle.model.specs.declared.RuntimeState.{RuntimeState}
@@ -73,9 +73,9 @@ pub record Outcome : Type 0 where
   pub state : RuntimeState
 
 unfoldable pub book_outcome : Said → Option Book → Option Outcome
-book_outcome answer none = none
-book_outcome answer (some b) =
-    some
+book_outcome answer None = None
+book_outcome answer (Some b) =
+    Some
     (record {
       answer = answer;
       receipts = map (λ r. line r.receipt_id (number r.reason) r.resource) b.receipts;
@@ -132,9 +132,9 @@ drive first epoch =
 -- all replies good and equal
 abbrev pub carried_out : ℤ → List Input
 carried_out first =
-    Replies (Observed (some (record { parameters = first ∷ negsuc 49 ∷ []; state = 0 })))
+    Replies (Observed (Some (record { parameters = first ∷ negsuc 49 ∷ []; state = 0 })))
     ∷ Replies (Executed true)
-    ∷ Replies (Observed (some (record { parameters = first ∷ negsuc 49 ∷ []; state = 0 })))
+    ∷ Replies (Observed (Some (record { parameters = first ∷ negsuc 49 ∷ []; state = 0 })))
     ∷ Replies Recorded
     ∷ []
 
@@ -183,6 +183,6 @@ cases =
     ∷ []
 
 -- every case of the table comes out as 01 says
-pub cases-hold : map outcome_of cases ≡ map (λ c. some c.expected) cases
+pub cases-hold : map outcome_of cases ≡ map (λ c. Some c.expected) cases
 unfolding cases outcome_of the_start book_outcome last_said said answer_said outputs_from phase_from react apply effect replied start_replied resumed called start start_unless start_from proceed begin resume book_in wait_book item_of refused_start refused_record bad_config opening submit admit dispatch verify verified same_parameters complete active_until stream_end fail consumed with_sequence reject storm original receipt_number acquire grant leased granted new_lease recover_local recover recoveries recovered stop_time masked emergency_stop update_state sense flagged new_flags meets_estop preconditions tick supervise expiries fallback_if due staleness watchdog exhausted fallback_or_trip trip fallbacks tripped fallback lease_owner lease_id cleared refresh_state refreshed record_receipt bump_epoch used_axes select validate verdict admission all_contain valid_until replayed find_entry is_entry well_formed authorizes has_bit order_lease lease_for order_capability with_id is_some acquire_checks is_free valid_request bad_duration allowed ready is_stale is_armed is_faulted is_estopped holds_of first_failing order_receipt axis_or255 event is_fallback numbered kept keep evict drop_first_rejected rejected is_rejected bump_to with_leases with_active with_replay with_receipts with_next_receipt with_next_lease with_epoch with_flags with_state_at with_last_tick with_state with_invalid_count with_estop_seen permits inside share_no_bit sound conditions verifiable every is_zero contains
 cases-hold = refl

@@ -2,9 +2,9 @@
 -- A cut needs no case of its own: a life that is cut is one whose inputs end while a reply is awaited, and every part speaks of every
 -- history. The parts that quantify over every start and history say more than one about the lives in hand would.
 use Rattle.std.specs.Prelude.{ℕ, ◌+◌, ◌<◌, ◌≤◌, ◌^◌, min, true, false, List, [], ◌∷◌, ◌++◌, map, ◌⊎◌, ◌≢◌, ◌↔◌, ◌≡◌, ℤ, take}
-use Rattle.std.proofs.Math.Option.{some, none}
+use Rattle.std.specs.Prelude.{Some, None}
 use Rattle.std.specs.Int.Bits.{bit_and}
-use Rattle.std.proofs.Math.ListN.{get_elem?}
+use Rattle.std.specs.Prelude.{slice_get}
 use Rattle.model.specs.declared.Capability.{Capability}
 use Rattle.model.specs.declared.Lease.{Lease}
 use Rattle.model.specs.declared.Observation.{Observation}
@@ -40,12 +40,12 @@ pub record Clears (before : Book) (s : Submission) (x : Exchange) : Type 0 where
   pub passes : Passes before s x
   pub seen : Observation
   pub after : List Reply
-  pub good : passes.ticked.later ≡ Observed (some seen) ∷ after
+  pub good : passes.ticked.later ≡ Observed (Some seen) ∷ after
 
 -- the call in hand submits an order with this capability and these parameters
 pub record Carried (l : Log) (c : ℕ) (p : List ℤ) : Type 0 where
   pub submission : Submission
-  pub call : call_of l ≡ some (Submit submission)
+  pub call : call_of l ≡ Some (Submit submission)
   pub capability : c ≡ submission.action.capability
   pub parameters : p ≡ submission.action.parameters
 
@@ -54,7 +54,7 @@ pub record Leased (s : Start) (l : Log) (o : Submission) : Type 0 where
   pub capability : Capability
   pub known : Named o.action.capability s.capabilities capability
   pub tenancy : Tenancy
-  pub stands : live capability.resource l ≡ some tenancy
+  pub stands : live capability.resource l ≡ Some tenancy
   pub lease : tenancy.lease ≡ o.action.lease_id
   pub owner : tenancy.owner ≡ o.principal
   pub bit : bit_and tenancy.capabilities (2 ^ o.action.capability) ≢ 0
@@ -72,7 +72,7 @@ pub record AdmittedBy (s : Start) (l : Log) (o : Submission) : Type 0 where
 -- an observe item: the call in hand is a submission, the axis is that of its capability, and the first one admits the order
 pub record Observing (s : Start) (l : Log) (axis : ℕ) : Type 0 where
   pub submission : Submission
-  pub call : call_of l ≡ some (Submit submission)
+  pub call : call_of l ≡ Some (Submit submission)
   pub capability : Capability
   pub known : Named submission.action.capability s.capabilities capability
   pub own : axis ≡ capability.resource
@@ -81,7 +81,7 @@ pub record Observing (s : Start) (l : Log) (axis : ℕ) : Type 0 where
 -- a receipt as it is handed out: its number counts the receipts before it; a grant's lease number is below the top, and its axis free
 pub record Recording (l : Log) (r : Receipt) : Type 0 where
   pub numbered : r.receipt_id ≡ next_number l
-  pub free : is_grant r ≡ true → live r.resource l ≡ none
+  pub free : is_grant r ≡ true → live r.resource l ≡ None
   pub below : is_grant r ≡ true → r.lease_id < top
 
 -- the book and the log -------------------------------------------------------------------------------------------------
@@ -114,11 +114,11 @@ pub record BookFacts (s : Start) (l : Log) (b : Book) : Type 0 where
   pub boot : b.boot_id ≡ s.boot_id
   pub capabilities : b.capabilities ≡ s.capabilities
   -- a lease stands exactly while it is live
-  pub standing : (axis : ℕ) (x : Lease) → lease_at b axis ≡ some x → live axis l ≡ some (tenancy_in x)
-  pub ended : (axis : ℕ) → lease_at b axis ≡ none → live axis l ≡ none
-  pub home : (axis : ℕ) (x : Lease) → lease_at b axis ≡ some x → x.resource ≡ axis
+  pub standing : (axis : ℕ) (x : Lease) → lease_at b axis ≡ Some x → live axis l ≡ Some (tenancy_in x)
+  pub ended : (axis : ℕ) → lease_at b axis ≡ None → live axis l ≡ None
+  pub home : (axis : ℕ) (x : Lease) → lease_at b axis ≡ Some x → x.resource ≡ axis
   -- 01: "its last sequence is the highest admitted under it, or 0"
-  pub last : (axis : ℕ) (x : Lease) → lease_at b axis ≡ some x → x.last_sequence ≡ highest x.id (admissions l)
+  pub last : (axis : ℕ) (x : Lease) → lease_at b axis ≡ Some x → x.last_sequence ≡ highest x.id (admissions l)
   -- 01: "the replay ring is the last 32 admitted"
   pub replay : b.replay ≡ take replay_capacity (map entry_of (admissions l))
   -- the receipts kept are those handed out, and the next one's number counts them
@@ -151,8 +151,8 @@ pub record StartedUp (s : Start) (l : Log) : Type 0 where
 -- the startup fallback on an axis is among the items of the start, and the reply at its place was good
 pub record StartedOn (axis : ℕ) (l : Log) : Type 0 where
   pub place : ℕ
-  pub item : get_elem? (start_items l) place ≡ some (ItemFallback axis Startup)
-  pub reply : get_elem? (start_replies l) place ≡ some (FellBack true)
+  pub item : slice_get (start_items l) place ≡ Some (ItemFallback axis Startup)
+  pub reply : slice_get (start_replies l) place ≡ Some (FellBack true)
 
 -- 01: "It leaves epoch 1, next receipt 1, next lease 1, raise number seen 0, last tick and state stamp at its time .., and state Estopped if
 -- the first flags meet `estop_mask`, else SafeIdle"; "with no lease, order or receipt"
@@ -160,8 +160,8 @@ pub record OpensSo (s : Start) (b : Book) : Type 0 where
   pub configured : b.config ≡ s.config
   pub booted : b.boot_id ≡ s.boot_id
   pub listed : b.capabilities ≡ s.capabilities
-  pub leases : (axis : ℕ) → lease_at b axis ≡ none
-  pub active : (axis : ℕ) → active_at b axis ≡ none
+  pub leases : (axis : ℕ) → lease_at b axis ≡ None
+  pub active : (axis : ℕ) → active_at b axis ≡ None
   pub replay : b.replay ≡ []
   pub receipts : b.receipts ≡ []
   pub next_receipt : b.next_receipt ≡ 1
@@ -194,23 +194,23 @@ pub record Claim (lives : List Life) : Type 0 where
   pub live-lease : (s : Start) (h : History) (c : ℕ) (p : List ℤ) → output_after s h ≡ Hands (ItemExecute c p)
       → (k : Carried (log_of s h) c p) → Leased s (log_of s h) k.submission
   -- a call in hand began on a book
-  pub begun : (s : Start) (h : History) (x : Exchange) → current (log_of s h) ≡ some x → (b : Book) × (book_before s h ≡ some b)
+  pub begun : (s : Start) (h : History) (x : Exchange) → current (log_of s h) ≡ Some x → (b : Book) × (book_before s h ≡ Some b)
   -- 01: "An order is admitted exactly if, after its tick, every check of `submit` holds in the book."
-  pub admitted : (s : Start) (h : History) (x : Exchange) (b : Book) → current (log_of s h) ≡ some x → book_before s h ≡ some b
+  pub admitted : (s : Start) (h : History) (x : Exchange) (b : Book) → current (log_of s h) ≡ Some x → book_before s h ≡ Some b
       → (o : Submission) → x.call ≡ Submit o → ((axis : ℕ) × Mem (ItemObserve axis) x.items) ↔ Passes b o x
   -- "and a submission does so exactly when its first observation succeeds, no cut comes first, and every admission check holds"
-  pub exactly : (s : Start) (h : History) (x : Exchange) (b : Book) → current (log_of s h) ≡ some x → book_before s h ≡ some b
+  pub exactly : (s : Start) (h : History) (x : Exchange) (b : Book) → current (log_of s h) ≡ Some x → book_before s h ≡ Some b
       → (o : Submission) → x.call ≡ Submit o
       → Mem (ItemExecute o.action.capability o.action.parameters) x.items ↔ Clears b o x
   -- "Before that, its life's startup fallback succeeded on every used axis."
   pub startup-first : (s : Start) (h : History) (c : ℕ) (p : List ℤ) → output_after s h ≡ Hands (ItemExecute c p)
       → (k : Capability) → Mem k s.capabilities → StartedOn k.resource (log_of s h)
   -- the same of every runtime, for all used axes at once
-  pub started-up : (s : Start) (h : History) (b : Book) → book_in (phase_after s h) ≡ some b → StartedUp s (log_of s h)
+  pub started-up : (s : Start) (h : History) (b : Book) → book_in (phase_after s h) ≡ Some b → StartedUp s (log_of s h)
   -- "Where 01's checks of a start pass, these fallbacks succeed and no cut comes first, there is a runtime."
   pub there-is-a-runtime : (s : Start) (h : History) → SoundStart s
       → start_replies (log_of s h) ≡ map (λ axis. FellBack true) (used_axes s.capabilities)
-      → ((b : Book) × (book_in (phase_after s h) ≡ some b)) × (call_of (log_of s h) ≡ none → (b : Book) × (phase_after s h ≡ Idle b) × OpensSo s b)
+      → ((b : Book) × (book_in (phase_after s h) ≡ Some b)) × (call_of (log_of s h) ≡ None → (b : Book) × (phase_after s h ≡ Idle b) × OpensSo s b)
   -- the used axes are those that capabilities name, rising
   pub used-axes : (s : Start) → SoundStart s → AreUsed s.capabilities (used_axes s.capabilities)
   -- an observation is a submission's, on the axis of its capability; the lease and replay checks hold by the log alone
@@ -222,4 +222,4 @@ pub record Claim (lives : List Life) : Type 0 where
   -- an answer says what was handed out
   pub answers : (s : Start) (h : History) → AnswerFacts s h
   -- the book keeps what the log says
-  pub book-facts : (s : Start) (h : History) (b : Book) → book_in (phase_after s h) ≡ some b → BookFacts s (log_of s h) b
+  pub book-facts : (s : Start) (h : History) (b : Book) → book_in (phase_after s h) ≡ Some b → BookFacts s (log_of s h) b

@@ -1,6 +1,6 @@
 -- The flags, the raise number last seen and the epoch, from the log alone.
 use Rattle.std.specs.Prelude.{ℕ, ◌+◌, Bool, true, false, cond, not, ◌&&◌, ◌||◌, [], ◌∷◌, eqb}
-use Rattle.std.proofs.Math.Option.{Option, some, none}
+use Rattle.std.specs.Prelude.{Option, Some, None}
 use Rattle.std.specs.Int.Bits.{bit_or}
 use Rattle.model.specs.declared.Reason.{Reason}
 use Rattle.model.specs.Reasons.{number}
@@ -67,16 +67,16 @@ in_force (Ended a) l = not (clock_tripped l)
 
 -- the flags of the update in hand in place of these; another call has none
 unfoldable pub updated : Option Call → ℕ → ℕ
-updated none n = n
-updated (some (Tick now)) n = n
-updated (some (UpdateState flags now)) n = flags
-updated (some (EmergencyStop now)) n = n
-updated (some (PollEstop raised now)) n = n
-updated (some (RecoverLocal now)) n = n
-updated (some (Acquire r now)) n = n
-updated (some (Renew r)) n = n
-updated (some (Cancel owner id now)) n = n
-updated (some (Submit s)) n = n
+updated None n = n
+updated (Some (Tick now)) n = n
+updated (Some (UpdateState flags now)) n = flags
+updated (Some (EmergencyStop now)) n = n
+updated (Some (PollEstop raised now)) n = n
+updated (Some (RecoverLocal now)) n = n
+updated (Some (Acquire r now)) n = n
+updated (Some (Renew r)) n = n
+updated (Some (Cancel owner id now)) n = n
+updated (Some (Submit s)) n = n
 
 -- the flags: those of the start, with the stop mask after a stop, replaced where an update comes into force
 unfoldable pub flags_of : Start → Log → ℕ

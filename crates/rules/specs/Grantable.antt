@@ -1,7 +1,7 @@
 -- A lease may be granted or renewed in a book: the checks of 01 as plain facts, in 01's order. A law (proofs/Grantable) joins them to the
 -- checks that the rules run.
 use Rattle.std.specs.Prelude.{ℕ, ◌+◌, ◌-◌, ◌^◌, ◌≤◌, ◌<◌, ◌≢◌, ◌≡◌, ◌≤ℤ◌}
-use Rattle.std.proofs.Math.Option.{some, none}
+use Rattle.std.specs.Prelude.{Some, None}
 use Rattle.std.specs.Int.Bits.{bit_and}
 use Rattle.model.specs.declared.Bounds.{Bounds}
 use Rattle.model.specs.declared.Capability.{Capability}
@@ -33,7 +33,7 @@ pub record Grantable (r : LeaseRequest) (now : ℕ) (b : Book) : Type 0 where
       (n : ℕ) → bit_and r.capabilities (2 ^ n) ≢ 0
       → (c : Capability) × Mem c b.capabilities × (c.resource ≡ r.resource) × (c.id ≡ n)
   -- 19 taken
-  pub free : lease_at b r.resource ≡ none
+  pub free : lease_at b r.resource ≡ None
   -- 10 expiry past u64
   pub fits : now + r.duration_ms ≤ top
 
@@ -43,7 +43,7 @@ pub record Renewable (r : Renewal) (b : Book) (axis : ℕ) (lease : Lease) : Typ
   -- 10 duration
   pub duration : (r.duration_ms ≢ 0) × (r.duration_ms ≤ b.config.max_lease_ms)
   -- 3 no lease with this id and owner
-  pub stands : lease_at b axis ≡ some lease
+  pub stands : lease_at b axis ≡ Some lease
   pub held : (lease.id ≡ r.lease_id) × (lease.owner ≡ r.owner)
   -- 6 renewal not above the last one
   pub newer : lease.last_renewal < r.renewal

@@ -1,7 +1,7 @@
 -- What a call does from here on, for every reply (an interaction tree). Each item carries the book as readings see it while its
 -- reply is awaited, and each kind of item has its own kind of reply (01, "A driver call").
 use Rattle.std.specs.Prelude.{ℕ, Bool, List, ℤ}
-use Rattle.std.proofs.Math.Option.{Option}
+use Rattle.std.specs.Prelude.{Option}
 use Rattle.model.specs.declared.Lease.{Lease}
 use Rattle.model.specs.declared.Observation.{Observation}
 use Rattle.model.specs.declared.Reason.{Reason}

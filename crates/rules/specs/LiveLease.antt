@@ -3,7 +3,9 @@ use Rattle.std.specs.Prelude.{ℕ, Bool, ◌&&◌, ◌≢◌, ◌≡◌}
 use Rattle.std.proofs.Math.Bool.{true, false, cond, false≢true}
 use mathlib.Core.List.{[], ◌∷◌, ◌++◌}
 use Rattle.std.proofs.Common.{⊎_elim, sym, ◌∙◌, eqb-true}
-use Rattle.std.proofs.Math.Option.{Option, some, none, none-ne-some, some-injective}
+use Rattle.std.specs.Prelude.{Option, Some, None}
+use Rattle.std.proofs.lemmas.Option.{none-some}
+use Rattle.model.proofs.Options.{some-injective}
 use Rattle.std.proofs.Math.Path.{refl, ap}
 use Rattle.std.proofs.lemmas.Bool.{eqb-false}
 use Rattle.std.proofs.Math.Dec.{eqb}
@@ -22,7 +24,7 @@ pub record GrantedTo (axis : ℕ) (t : Tenancy) (l : Log) : Type 0 where
   pub log : l ≡ later ++ (Handed (ItemRecord receipt) ∷ earlier)
   pub request : LeaseRequest
   pub time : ℕ
-  pub acquire : call_of earlier ≡ some (Acquire request time)
+  pub acquire : call_of earlier ≡ Some (Acquire request time)
   pub grant : is_grant receipt ≡ true
   pub on : receipt.resource ≡ axis
   pub lease : receipt.lease_id ≡ t.lease
@@ -54,10 +56,10 @@ module _ (axis : ℕ) where
       }
 
   -- a grant that is handed out now
-  now-granted : (t : Tenancy) (r : Receipt) (l : Log) → is_grant r ≡ true → r.resource ≡ axis → (c : Option Call) → call_of l ≡ c → tenancy_of r.lease_id c ≡ some t
+  now-granted : (t : Tenancy) (r : Receipt) (l : Log) → is_grant r ≡ true → r.resource ≡ axis → (c : Option Call) → call_of l ≡ c → tenancy_of r.lease_id c ≡ Some t
       → GrantedTo axis t (Handed (ItemRecord r) ∷ l)
   unfolding tenancy_of
-  now-granted t r l g on (some (Acquire q now)) call e =
+  now-granted t r l g on (Some (Acquire q now)) call e =
       let same = some-injective _ _ e in
       record {
         later = [];
@@ -74,31 +76,31 @@ module _ (axis : ℕ) where
         capabilities = ap (λ (x : Tenancy). x.capabilities) same;
         no-fallback = λ reason m. m;
       }
-  now-granted t r l g on none call e = absurd (none-ne-some _ e)
-  now-granted t r l g on (some (Tick now)) call e = absurd (none-ne-some _ e)
-  now-granted t r l g on (some (UpdateState flags now)) call e = absurd (none-ne-some _ e)
-  now-granted t r l g on (some (EmergencyStop now)) call e = absurd (none-ne-some _ e)
-  now-granted t r l g on (some (PollEstop raised now)) call e = absurd (none-ne-some _ e)
-  now-granted t r l g on (some (RecoverLocal now)) call e = absurd (none-ne-some _ e)
-  now-granted t r l g on (some (Renew q)) call e = absurd (none-ne-some _ e)
-  now-granted t r l g on (some (Cancel owner id now)) call e = absurd (none-ne-some _ e)
-  now-granted t r l g on (some (Submit s)) call e = absurd (none-ne-some _ e)
+  now-granted t r l g on None call e = absurd (none-some _ e)
+  now-granted t r l g on (Some (Tick now)) call e = absurd (none-some _ e)
+  now-granted t r l g on (Some (UpdateState flags now)) call e = absurd (none-some _ e)
+  now-granted t r l g on (Some (EmergencyStop now)) call e = absurd (none-some _ e)
+  now-granted t r l g on (Some (PollEstop raised now)) call e = absurd (none-some _ e)
+  now-granted t r l g on (Some (RecoverLocal now)) call e = absurd (none-some _ e)
+  now-granted t r l g on (Some (Renew q)) call e = absurd (none-some _ e)
+  now-granted t r l g on (Some (Cancel owner id now)) call e = absurd (none-some _ e)
+  now-granted t r l g on (Some (Submit s)) call e = absurd (none-some _ e)
 
   -- a renewal leaves all but the end
   record Renewed (old : Option Tenancy) (t : Tenancy) : Type 0 where
     before : Tenancy
-    was : old ≡ some before
+    was : old ≡ Some before
     lease : before.lease ≡ t.lease
     owner : before.owner ≡ t.owner
     capabilities : before.capabilities ≡ t.capabilities
 
-  same-as : (old : Option Tenancy) (t : Tenancy) → old ≡ some t → Renewed old t
+  same-as : (old : Option Tenancy) (t : Tenancy) → old ≡ Some t → Renewed old t
   same-as old t e = record { before = t; was = e; lease = refl; owner = refl; capabilities = refl }
 
-  moved-end : (time : ℕ) (old : Option Tenancy) (t : Tenancy) → until time old ≡ some t → Renewed old t
+  moved-end : (time : ℕ) (old : Option Tenancy) (t : Tenancy) → until time old ≡ Some t → Renewed old t
   unfolding until
-  moved-end time none t e = absurd (none-ne-some _ e)
-  moved-end time (some x) t e =
+  moved-end time None t e = absurd (none-some _ e)
+  moved-end time (Some x) t e =
       let same = some-injective _ _ e in
       record {
         before = x;
@@ -108,20 +110,20 @@ module _ (axis : ℕ) where
         capabilities = ap (λ (y : Tenancy). y.capabilities) same;
       }
 
-  renewal : (c : Option Call) (old : Option Tenancy) (t : Tenancy) → renewed_by c old ≡ some t → Renewed old t
+  renewal : (c : Option Call) (old : Option Tenancy) (t : Tenancy) → renewed_by c old ≡ Some t → Renewed old t
   unfolding renewed_by
-  renewal (some (Renew q)) old t e = moved-end _ old t e
-  renewal none old t e = same-as old t e
-  renewal (some (Tick now)) old t e = same-as old t e
-  renewal (some (UpdateState flags now)) old t e = same-as old t e
-  renewal (some (EmergencyStop now)) old t e = same-as old t e
-  renewal (some (PollEstop raised now)) old t e = same-as old t e
-  renewal (some (RecoverLocal now)) old t e = same-as old t e
-  renewal (some (Acquire q now)) old t e = same-as old t e
-  renewal (some (Cancel owner id now)) old t e = same-as old t e
-  renewal (some (Submit s)) old t e = same-as old t e
+  renewal (Some (Renew q)) old t e = moved-end _ old t e
+  renewal None old t e = same-as old t e
+  renewal (Some (Tick now)) old t e = same-as old t e
+  renewal (Some (UpdateState flags now)) old t e = same-as old t e
+  renewal (Some (EmergencyStop now)) old t e = same-as old t e
+  renewal (Some (PollEstop raised now)) old t e = same-as old t e
+  renewal (Some (RecoverLocal now)) old t e = same-as old t e
+  renewal (Some (Acquire q now)) old t e = same-as old t e
+  renewal (Some (Cancel owner id now)) old t e = same-as old t e
+  renewal (Some (Submit s)) old t e = same-as old t e
 
-  granted-before : (l : Log) (old : Option Tenancy) (t : Tenancy) → Renewed old t → ((x : Tenancy) → old ≡ some x → GrantedTo axis x l) → GrantedTo axis t l
+  granted-before : (l : Log) (old : Option Tenancy) (t : Tenancy) → Renewed old t → ((x : Tenancy) → old ≡ Some x → GrantedTo axis x l) → GrantedTo axis t l
   granted-before l old t k f =
       let g = f k.before k.was in
       record {
@@ -144,31 +146,31 @@ module _ (axis : ℕ) where
   both true b e = e
   both false b e = absurd (false≢true e)
 
-  at-record : (r : Receipt) (l : Log) (t : Tenancy) → recorded_on axis r (call_of l) (live axis l) ≡ some t
-      → ((x : Tenancy) → live axis l ≡ some x → GrantedTo axis x l) → GrantedTo axis t (Handed (ItemRecord r) ∷ l)
+  at-record : (r : Receipt) (l : Log) (t : Tenancy) → recorded_on axis r (call_of l) (live axis l) ≡ Some t
+      → ((x : Tenancy) → live axis l ≡ Some x → GrantedTo axis x l) → GrantedTo axis t (Handed (ItemRecord r) ∷ l)
   unfolding recorded_on
   at-record r l t e f = go (is_control r.decision && eqb r.resource axis) refl (is_grant r) refl e
     where
       go : (u : Bool) → (is_control r.decision && eqb r.resource axis) ≡ u → (g : Bool) → is_grant r ≡ g
-          → cond u (cond g (tenancy_of r.lease_id (call_of l)) (renewed_by (call_of l) (live axis l))) (live axis l) ≡ some t
+          → cond u (cond g (tenancy_of r.lease_id (call_of l)) (renewed_by (call_of l) (live axis l))) (live axis l) ≡ Some t
           → GrantedTo axis t (Handed (ItemRecord r) ∷ l)
       go true p true q e = now-granted t r l q (eqb-true _ _ (both (is_control r.decision) _ p)) (call_of l) refl e
       go true p false q e =
           one_later t _ l (λ reason p. false≢true (cc)) (granted-before l (live axis l) t (renewal (call_of l) (live axis l) t e) f)
       go false p g q e = one_later t _ l (λ reason p. false≢true (cc)) (f t e)
 
-  at-fallback : (i : ℕ) (reason : Reason) (l : Log) (t : Tenancy) → cond (eqb i axis) none (live axis l) ≡ some t
-      → (live axis l ≡ some t → GrantedTo axis t l) → GrantedTo axis t (Handed (ItemFallback i reason) ∷ l)
+  at-fallback : (i : ℕ) (reason : Reason) (l : Log) (t : Tenancy) → cond (eqb i axis) None (live axis l) ≡ Some t
+      → (live axis l ≡ Some t → GrantedTo axis t l) → GrantedTo axis t (Handed (ItemFallback i reason) ∷ l)
   at-fallback i reason l t e f = go (eqb i axis) refl e
     where
-      go : (u : Bool) → eqb i axis ≡ u → cond u none (live axis l) ≡ some t → GrantedTo axis t (Handed (ItemFallback i reason) ∷ l)
-      go true q e = absurd (none-ne-some _ e)
+      go : (u : Bool) → eqb i axis ≡ u → cond u None (live axis l) ≡ Some t → GrantedTo axis t (Handed (ItemFallback i reason) ∷ l)
+      go true q e = absurd (none-some _ e)
       go false q e = one_later t _ l (λ r p. eqb-false i axis q (sym (fallback-apart p))) (f e)
 
   -- 01: "A lease is live from its grant to the next fallback on its axis"
-  pub live-means : (l : Log) (t : Tenancy) → live axis l ≡ some t → GrantedTo axis t l
+  pub live-means : (l : Log) (t : Tenancy) → live axis l ≡ Some t → GrantedTo axis t l
   unfolding live holding
-  live-means [] t e = absurd (none-ne-some _ e)
+  live-means [] t e = absurd (none-some _ e)
   live-means (Took c ∷ l) t e = one_later t _ l (λ reason p. false≢true (cc)) (live-means l t e)
   live-means (Replied r ∷ l) t e = one_later t _ l (λ reason p. false≢true (cc)) (live-means l t e)
   live-means (Handed (ItemObserve i) ∷ l) t e = one_later t _ l (λ reason p. false≢true (cc)) (live-means l t e)

@@ -1,7 +1,7 @@
 -- What the history of a life says about it, from its inputs and outputs alone. Histories and logs are newest first, so that each
 -- definition goes by the past alone, and a life that is cut is a shorter history.
 use Rattle.std.specs.Prelude.{ℕ, ◌+◌, max, Bool, true, false, cond, ◌&&◌, List, [], ◌∷◌, ◌++◌, map, reverse, eqb}
-use Rattle.std.proofs.Math.Option.{Option, some, none}
+use Rattle.std.specs.Prelude.{Option, Some, None}
 use Rattle.model.specs.declared.Action.{Action}
 use Rattle.model.specs.declared.Bounds.{Bounds}
 use Rattle.model.specs.declared.Decision.{Decision}
@@ -81,15 +81,15 @@ opened (Replies r) out b old = old
 opened (Reads q) out b old = old
 
 unfoldable pub book_before : Start → History → Option Book
-book_before s [] = none
+book_before s [] = None
 book_before s (i ∷ past) = opened i (react (phase_after s past) i).output (book_in (phase_after s past)) (book_before s past)
 
 -- what a log says --------------------------------------------------------------------------------------------------
 
 -- the call in hand: the last that was taken
 unfoldable pub call_of : Log → Option Call
-call_of [] = none
-call_of (Took c ∷ l) = some c
+call_of [] = None
+call_of (Took c ∷ l) = Some c
 call_of (Replied r ∷ l) = call_of l
 call_of (Handed i ∷ l) = call_of l
 call_of (Ended a ∷ l) = call_of l
@@ -101,24 +101,24 @@ pub record Exchange : Type 0 where
   pub items : List Item
 
 unfoldable pub with_reply : Reply → Option Exchange → Option Exchange
-with_reply r none = none
-with_reply r (some x) = some (record { call = x.call; replies = x.replies ++ (r ∷ []); items = x.items })
+with_reply r None = None
+with_reply r (Some x) = Some (record { call = x.call; replies = x.replies ++ (r ∷ []); items = x.items })
 
 unfoldable pub with_item : Item → Option Exchange → Option Exchange
-with_item i none = none
-with_item i (some x) = some (record { call = x.call; replies = x.replies; items = x.items ++ (i ∷ []) })
+with_item i None = None
+with_item i (Some x) = Some (record { call = x.call; replies = x.replies; items = x.items ++ (i ∷ []) })
 
 unfoldable pub current : Log → Option Exchange
-current [] = none
-current (Took c ∷ l) = some (record { call = c; replies = []; items = [] })
+current [] = None
+current (Took c ∷ l) = Some (record { call = c; replies = []; items = [] })
 current (Replied r ∷ l) = with_reply r (current l)
 current (Handed i ∷ l) = with_item i (current l)
 current (Ended a ∷ l) = current l
 
 -- before the first call: the items that the start handed out, and the replies to them, oldest first
 unfoldable pub unless_called : {A : Type 0} → Option Call → List A → List A
-unless_called none xs = xs
-unless_called (some c) xs = []
+unless_called None xs = xs
+unless_called (Some c) xs = []
 
 unfoldable pub start_items : Log → List Item
 start_items [] = []
@@ -137,16 +137,16 @@ start_replies (Ended a ∷ l) = start_replies l
 -- orders ---------------------------------------------------------------------------------------------------------------
 
 unfoldable pub submission_in : Option Call → List Submission
-submission_in none = []
-submission_in (some (Tick now)) = []
-submission_in (some (UpdateState flags now)) = []
-submission_in (some (EmergencyStop now)) = []
-submission_in (some (PollEstop raised now)) = []
-submission_in (some (RecoverLocal now)) = []
-submission_in (some (Acquire r now)) = []
-submission_in (some (Renew r)) = []
-submission_in (some (Cancel owner id now)) = []
-submission_in (some (Submit s)) = s ∷ []
+submission_in None = []
+submission_in (Some (Tick now)) = []
+submission_in (Some (UpdateState flags now)) = []
+submission_in (Some (EmergencyStop now)) = []
+submission_in (Some (PollEstop raised now)) = []
+submission_in (Some (RecoverLocal now)) = []
+submission_in (Some (Acquire r now)) = []
+submission_in (Some (Renew r)) = []
+submission_in (Some (Cancel owner id now)) = []
+submission_in (Some (Submit s)) = s ∷ []
 
 -- the submissions that reached execute: the call in hand, at each execute item
 unfoldable pub reaching : Item → Option Call → List Submission
@@ -256,35 +256,35 @@ pub record Tenancy : Type 0 where
 
 -- the lease of this number that the call in hand asked for
 unfoldable pub tenancy_of : ℕ → Option Call → Option Tenancy
-tenancy_of lease none = none
-tenancy_of lease (some (Tick now)) = none
-tenancy_of lease (some (UpdateState flags now)) = none
-tenancy_of lease (some (EmergencyStop now)) = none
-tenancy_of lease (some (PollEstop raised now)) = none
-tenancy_of lease (some (RecoverLocal now)) = none
-tenancy_of lease (some (Acquire r now)) =
-    some (record { lease = lease; owner = r.owner; capabilities = r.capabilities; limits = r.limits; expires = now + r.duration_ms })
-tenancy_of lease (some (Renew r)) = none
-tenancy_of lease (some (Cancel owner id now)) = none
-tenancy_of lease (some (Submit s)) = none
+tenancy_of lease None = None
+tenancy_of lease (Some (Tick now)) = None
+tenancy_of lease (Some (UpdateState flags now)) = None
+tenancy_of lease (Some (EmergencyStop now)) = None
+tenancy_of lease (Some (PollEstop raised now)) = None
+tenancy_of lease (Some (RecoverLocal now)) = None
+tenancy_of lease (Some (Acquire r now)) =
+    Some (record { lease = lease; owner = r.owner; capabilities = r.capabilities; limits = r.limits; expires = now + r.duration_ms })
+tenancy_of lease (Some (Renew r)) = None
+tenancy_of lease (Some (Cancel owner id now)) = None
+tenancy_of lease (Some (Submit s)) = None
 
 unfoldable pub until : ℕ → Option Tenancy → Option Tenancy
-until time none = none
-until time (some t) =
-    some (record { lease = t.lease; owner = t.owner; capabilities = t.capabilities; limits = t.limits; expires = time })
+until time None = None
+until time (Some t) =
+    Some (record { lease = t.lease; owner = t.owner; capabilities = t.capabilities; limits = t.limits; expires = time })
 
 -- the same lease, until the time that the call in hand asks for
 unfoldable pub renewed_by : Option Call → Option Tenancy → Option Tenancy
-renewed_by none t = t
-renewed_by (some (Tick now)) t = t
-renewed_by (some (UpdateState flags now)) t = t
-renewed_by (some (EmergencyStop now)) t = t
-renewed_by (some (PollEstop raised now)) t = t
-renewed_by (some (RecoverLocal now)) t = t
-renewed_by (some (Acquire r now)) t = t
-renewed_by (some (Renew r)) t = until (r.now + r.duration_ms) t
-renewed_by (some (Cancel owner id now)) t = t
-renewed_by (some (Submit s)) t = t
+renewed_by None t = t
+renewed_by (Some (Tick now)) t = t
+renewed_by (Some (UpdateState flags now)) t = t
+renewed_by (Some (EmergencyStop now)) t = t
+renewed_by (Some (PollEstop raised now)) t = t
+renewed_by (Some (RecoverLocal now)) t = t
+renewed_by (Some (Acquire r now)) t = t
+renewed_by (Some (Renew r)) t = until (r.now + r.duration_ms) t
+renewed_by (Some (Cancel owner id now)) t = t
+renewed_by (Some (Submit s)) t = t
 
 -- a receipt of the decision Control is a grant's or a renewal's
 unfoldable pub is_control : Decision → Bool
@@ -304,12 +304,12 @@ recorded_on axis r c old =
 unfoldable pub holding : ℕ → Item → Option Call → Option Tenancy → Option Tenancy
 holding axis (ItemObserve i) c old = old
 holding axis (ItemExecute capability parameters) c old = old
-holding axis (ItemFallback i reason) c old = cond (eqb i axis) none old
+holding axis (ItemFallback i reason) c old = cond (eqb i axis) None old
 holding axis (ItemRecord r) c old = recorded_on axis r c old
 
 -- 01: "A lease is live from its grant to the next fallback on its axis"; a renewal moves its end
 unfoldable pub live : ℕ → Log → Option Tenancy
-live axis [] = none
+live axis [] = None
 live axis (Took c ∷ l) = live axis l
 live axis (Replied r ∷ l) = live axis l
 live axis (Handed i ∷ l) = holding axis i (call_of l) (live axis l)

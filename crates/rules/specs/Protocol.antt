@@ -1,7 +1,7 @@
 -- How the host and the runtime take turns (01, "A driver call" and "A start"): calls, replies, readings, items, and the refusals 111 to 113.
 use Rattle.std.specs.Prelude.{ℕ, Bool, true, false, cond, not, ◌&&◌, ◌||◌, List, [], ◌∷◌, ◌++◌, ltb, eqb, ℤ, length, replicate}
-use Rattle.std.proofs.Math.Option.{Option, some, none}
-use Rattle.std.proofs.Math.ListN.{get_elem?}
+use Rattle.std.specs.Prelude.{Option, Some, None}
+use Rattle.std.specs.Prelude.{slice_get}
 use Rattle.model.specs.declared.Capability.{Capability}
 use Rattle.model.specs.declared.Config.{Config}
 use Rattle.model.specs.declared.Lease.{Lease}
@@ -94,8 +94,8 @@ opening s =
       config = s.config;
       boot_id = s.boot_id;
       capabilities = s.capabilities;
-      leases = replicate 8 none;
-      active = replicate 8 none;
+      leases = replicate 8 None;
+      active = replicate 8 None;
       replay = [];
       receipts = [];
       next_receipt = 1;
@@ -121,16 +121,16 @@ bad_config c count =
 
 -- 01: "then each record in list order, its own conditions before its id is compared with earlier ones"
 unfoldable pub refused_record : List Capability → List Capability → Option ℕ
-refused_record earlier [] = none
+refused_record earlier [] = None
 refused_record earlier (c ∷ rest) =
-    cond (not (sound c)) (some invalid_capability)
-    (cond (id_taken earlier c.id) (some duplicate_capability) (refused_record (earlier ++ (c ∷ [])) rest))
+    cond (not (sound c)) (Some invalid_capability)
+    (cond (id_taken earlier c.id) (Some duplicate_capability) (refused_record (earlier ++ (c ∷ [])) rest))
 
 -- 01: "Checks in order: boot number; configuration; then each record in list order"
 unfoldable pub refused_start : Start → Option ℕ
 refused_start s =
-    cond (eqb s.boot_id 0) (some invalid_boot_id)
-    (cond (bad_config s.config (length s.capabilities)) (some invalid_config) (refused_record [] s.capabilities))
+    cond (eqb s.boot_id 0) (Some invalid_boot_id)
+    (cond (bad_config s.config (length s.capabilities)) (Some invalid_config) (refused_record [] s.capabilities))
 
 -- where the runtime stands between two inputs ------------------------------------------------------------------------
 
@@ -161,36 +161,36 @@ wait_book (OnRecord r b k) = b
 
 -- the book that readings see: "until it ends there is no runtime to read"
 unfoldable pub book_in : Phase → Option Book
-book_in (Starting s axis rest good) = none
-book_in Gone = none
-book_in (Idle b) = some b
-book_in (Waiting w) = some (wait_book w)
+book_in (Starting s axis rest good) = None
+book_in Gone = None
+book_in (Idle b) = Some b
+book_in (Waiting w) = Some (wait_book w)
 
 -- the item whose reply is awaited
 abbrev pub awaited_in : Phase → Option Item
-awaited_in (Starting s axis rest good) = some (ItemFallback axis Startup)
-awaited_in Gone = none
-awaited_in (Idle b) = none
-awaited_in (Waiting w) = some (item_of w)
+awaited_in (Starting s axis rest good) = Some (ItemFallback axis Startup)
+awaited_in Gone = None
+awaited_in (Idle b) = None
+awaited_in (Waiting w) = Some (item_of w)
 
 -- what follows a reply, if it is of the awaited kind
 unfoldable pub resume : Wait → Reply → Option Interaction
-resume (OnObserve axis b k) (Observed seen) = some (k seen)
-resume (OnObserve axis b k) (Executed ok) = none
-resume (OnObserve axis b k) (FellBack ok) = none
-resume (OnObserve axis b k) Recorded = none
-resume (OnExecute c p b k) (Observed seen) = none
-resume (OnExecute c p b k) (Executed ok) = some (k ok)
-resume (OnExecute c p b k) (FellBack ok) = none
-resume (OnExecute c p b k) Recorded = none
-resume (OnFallback axis reason b k) (Observed seen) = none
-resume (OnFallback axis reason b k) (Executed ok) = none
-resume (OnFallback axis reason b k) (FellBack ok) = some (k ok)
-resume (OnFallback axis reason b k) Recorded = none
-resume (OnRecord r b k) (Observed seen) = none
-resume (OnRecord r b k) (Executed ok) = none
-resume (OnRecord r b k) (FellBack ok) = none
-resume (OnRecord r b k) Recorded = some k
+resume (OnObserve axis b k) (Observed seen) = Some (k seen)
+resume (OnObserve axis b k) (Executed ok) = None
+resume (OnObserve axis b k) (FellBack ok) = None
+resume (OnObserve axis b k) Recorded = None
+resume (OnExecute c p b k) (Observed seen) = None
+resume (OnExecute c p b k) (Executed ok) = Some (k ok)
+resume (OnExecute c p b k) (FellBack ok) = None
+resume (OnExecute c p b k) Recorded = None
+resume (OnFallback axis reason b k) (Observed seen) = None
+resume (OnFallback axis reason b k) (Executed ok) = None
+resume (OnFallback axis reason b k) (FellBack ok) = Some (k ok)
+resume (OnFallback axis reason b k) Recorded = None
+resume (OnRecord r b k) (Observed seen) = None
+resume (OnRecord r b k) (Executed ok) = None
+resume (OnRecord r b k) (FellBack ok) = None
+resume (OnRecord r b k) Recorded = Some k
 
 -- readings -----------------------------------------------------------------------------------------------------------
 
@@ -199,8 +199,8 @@ lease_count ls = length (present ls)
   where
     present : List (Option Lease) → List Lease
     present [] = []
-    present (none ∷ ls) = present ls
-    present (some l ∷ ls) = l ∷ present ls
+    present (None ∷ ls) = present ls
+    present (Some l ∷ ls) = l ∷ present ls
 
 unfoldable pub snapshot : Book → Snapshot
 snapshot b =
@@ -226,8 +226,8 @@ read ReadReceiptCount b = OfNumber (length b.receipts)
 read ReadConfig b = OfConfig b.config
 read ReadSnapshot b = OfSnapshot (snapshot b)
 read (ReadLease axis) b = OfLease (lease_at b axis)
-read (ReadCapability i) b = OfCapability (get_elem? b.capabilities i)
-read (ReadReceipt i) b = OfReceipt (get_elem? b.receipts i)
+read (ReadCapability i) b = OfCapability (slice_get b.capabilities i)
+read (ReadReceipt i) b = OfReceipt (slice_get b.receipts i)
 
 -- turns --------------------------------------------------------------------------------------------------------------
 
@@ -262,8 +262,8 @@ start_from s [] true = record { output = Started; phase = Idle (opening s) }
 start_from s [] false = record { output = StartRefused startup_failed; phase = Gone }
 
 unfoldable pub start_unless : Option ℕ → Start → Reaction
-start_unless (some number) s = record { output = StartRefused number; phase = Gone }
-start_unless none s = start_from s (used_axes s.capabilities) true
+start_unless (Some number) s = record { output = StartRefused number; phase = Gone }
+start_unless None s = start_from s (used_axes s.capabilities) true
 
 unfoldable pub start : Start → Reaction
 start s = start_unless (refused_start s) s
@@ -280,8 +280,8 @@ called c (Idle b) = Moves (proceed (begin c b))
 called c (Waiting w) = Stays (Reminds reply_awaited (item_of w))
 
 unfoldable pub resumed : Option Interaction → Item → Effect
-resumed (some t) item = Moves (proceed t)
-resumed none item = Stays (Reminds other_reply_awaited item)
+resumed (Some t) item = Moves (proceed t)
+resumed None item = Stays (Reminds other_reply_awaited item)
 
 unfoldable pub start_replied : Reply → Start → ℕ → List ℕ → Bool → Effect
 start_replied (FellBack ok) s axis rest good = Moves (start_from s rest (good && ok))
@@ -296,8 +296,8 @@ replied r (Idle b) = Stays (Refuses no_reply_awaited)
 replied r (Waiting w) = resumed (resume w r) (item_of w)
 
 unfoldable pub shown : Reading → Option Book → Output
-shown q none = NoRuntime
-shown q (some b) = Shows (read q b)
+shown q None = NoRuntime
+shown q (Some b) = Shows (read q b)
 
 unfoldable pub effect : Phase → Input → Effect
 effect p (Calls c) = called c p

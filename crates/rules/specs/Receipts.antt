@@ -1,6 +1,6 @@
 -- Receipts: what they say, their numbers, and which are kept (01, "Receipts"; runtime.rs, `record`, `event`, `submit`).
 use Rattle.std.specs.Prelude.{ℕ, ◌+◌, Bool, true, false, cond, List, [], ◌∷◌, ◌++◌, ltb, ℤ, pos, length, drop}
-use Rattle.std.proofs.Math.Option.{Option, some, none}
+use Rattle.std.specs.Prelude.{Option, Some, None}
 use Rattle.model.specs.declared.Capability.{Capability}
 use Rattle.model.specs.declared.Decision.{Decision}
 use Rattle.model.specs.declared.Decision.TheVariants.{Executed, Rejected, Fallback, Control, Failed}
@@ -143,8 +143,8 @@ not_sent =
     }
 
 unfoldable pub axis_or255 : Option Capability → ℕ
-axis_or255 none = 255
-axis_or255 (some c) = c.resource
+axis_or255 None = 255
+axis_or255 (Some c) = c.resource
 
 -- the receipt of an order: the capability that it names, decision, reason, a duplicate's original, and how far the driver came
 unfoldable pub order_receipt : Submission → Option Capability → Decision → Reason → ℕ → Progress → Book → Receipt

@@ -2,7 +2,7 @@
 -- that it names.
 use Rattle.std.specs.Prelude.{ℕ, ◌+◌, ◌≤◌, true, false, List, [], ◌∷◌, ◌++◌, map, ◌⊎◌, ◌≢◌, ◌≡◌, refl, length, take}
 use Rattle.std.proofs.Common.{append-nil, inl, inr, sym, ap, ◌∙◌, subst}
-use Rattle.std.proofs.Math.Option.{some, none}
+use Rattle.std.specs.Prelude.{Some, None}
 use Rattle.model.specs.declared.Capability.{Capability}
 use Rattle.model.specs.declared.Decision.TheVariants as Decision
 use Rattle.model.specs.declared.Reason.{Reason}
@@ -47,24 +47,24 @@ module _ (s : Start) (rows : StartRefusals s) where
   no-other-cause n e = (rows.which n).0 e
 
   -- "no runtime | driver not called"
-  pub refused-at-once : (n : ℕ) → output_after s [] ≡ StartRefused n → (h : History) → (log_of s h ≡ []) × (book_in (phase_after s h) ≡ none)
+  pub refused-at-once : (n : ℕ) → output_after s [] ≡ StartRefused n → (h : History) → (log_of s h ≡ []) × (book_in (phase_after s h) ≡ None)
   refused-at-once n e h =
-      (rows.no-driver n e h, subst (λ (k : History). book_in (phase_after s k) ≡ none) (append-nil h) (rows.no-runtime [] n e h))
+      (rows.no-driver n e h, subst (λ (k : History). book_in (phase_after s k) ≡ None) (append-nil h) (rows.no-runtime [] n e h))
 
   -- a sound start tries the used axes one after another, the next with each reply, and is then over
-  pub tries-each : (h : History) → SoundStart s → call_of (log_of s h) ≡ none
+  pub tries-each : (h : History) → SoundStart s → call_of (log_of s h) ≡ None
       → start_items (log_of s h)
       ≡ map (λ axis. ItemFallback axis Reason.Startup) (take (length (start_replies (log_of s h)) + 1) (used_axes s.capabilities))
   tries-each h sound call = rows.goes_on h sound call
 
-  pub starts-then : (h : History) → SoundStart s → took_effect (output_after s h) ≡ true → call_of (log_of s h) ≡ none → awaited (log_of s h) ≡ none
+  pub starts-then : (h : History) → SoundStart s → took_effect (output_after s h) ≡ true → call_of (log_of s h) ≡ None → awaited (log_of s h) ≡ None
       → ¬ Mem (FellBack false) (start_replies (log_of s h)) → output_after s h ≡ Started
   starts-then h sound took call idle good = rows.started h sound took call idle good
 
   -- "a startup fallback failed | 105 | no runtime | nothing: all used axes were tried"
-  pub startup-failed : (h : History) → SoundStart s → took_effect (output_after s h) ≡ true → call_of (log_of s h) ≡ none → awaited (log_of s h) ≡ none
+  pub startup-failed : (h : History) → SoundStart s → took_effect (output_after s h) ≡ true → call_of (log_of s h) ≡ None → awaited (log_of s h) ≡ None
       → Mem (FellBack false) (start_replies (log_of s h))
-      → (output_after s h ≡ StartRefused 105) × ((later : List Input) → book_in (phase_after s (later ++ h)) ≡ none)
+      → (output_after s h ≡ StartRefused 105) × ((later : List Input) → book_in (phase_after s (later ++ h)) ≡ None)
   startup-failed h sound took call idle m = let e = rows.refused h sound took call idle m in (e, rows.no-runtime h 105 e)
 
   pub all-tried : (i : Input) (h : History) (n : ℕ) → output_after s (i ∷ h) ≡ StartRefused n
@@ -114,7 +114,7 @@ module _ (rows : (s : Start) (h : History) → Refusals s h) where
 
   -- "`acquire`, `renew`, `cancel`, `recover_local` refused | Reason | number only | all, but for the opening tick"
   pub all-but-the-tick : (s : Start) (h : History) (x : Exchange) (b : Book) (reason : Reason) → output_after s h ≡ Answers (Refused reason)
-      → current (log_of s h) ≡ some x → book_before s h ≡ some b → reason ≢ Reason.Driver
+      → current (log_of s h) ≡ Some x → book_before s h ≡ Some b → reason ≢ Reason.Driver
       → (book : Book) × Runs (tick (time_of x.call) b (λ b'. Done b' Returned)) x.replies x.items (Done book Returned)
       × (phase_after s h ≡ Idle book) × Refusable x.call (time_of x.call) × Refusing x.call book reason
   all-but-the-tick s h x b reason e q f other =
@@ -134,7 +134,7 @@ module _ (rows : (s : Start) (h : History) → Refusals s h) where
 
   -- "the same, 16 from the driver | 16 | number only | nothing: fallbacks ran; state Faulted": after the tick, on every used axis
   pub fallbacks-ran : (s : Start) (h : History) (x : Exchange) (b : Book) → output_after s h ≡ Answers (Refused Reason.Driver)
-      → current (log_of s h) ≡ some x → book_before s h ≡ some b
+      → current (log_of s h) ≡ Some x → book_before s h ≡ Some b
       → (reason : Reason) × Driven x.call reason × (now : ℕ) × Refusable x.call now × (ticked : Book) × (t : Ticked now b x ticked)
       × ((axis : ℕ) → Mem axis (used_axes s.capabilities) → Mem (ItemFallback axis reason) t.later_items)
       × Mem (FellBack false) t.later × (after : Book) × (phase_after s h ≡ Idle after) × (after.state ≡ State.Faulted)
@@ -144,16 +144,16 @@ module _ (rows : (s : Start) (h : History) → Refusals s h) where
 
   -- and 16 comes where a fallback failed: a success shows that none did
   pub success-shows : (s : Start) (h : History) (x : Exchange) (b : Book) → output_after s h ≡ Answers Succeeded
-      → current (log_of s h) ≡ some x → book_before s h ≡ some b
+      → current (log_of s h) ≡ Some x → book_before s h ≡ Some b
       → (now : ℕ) × Refusable x.call now × (ticked : Book) × (t : Ticked now b x ticked) × Succeeding x.call ticked × (¬ Mem (FellBack false) t.later)
   success-shows s h x b e q f = let k = (rows s h).success x b e q f in (k.now, k.time, k.book, k.ticked, k.found, k.good)
 
   -- "order rejected | Reason | its receipt | leases, replay, active orders, but for tick and storm": while its receipt is awaited they are as the
   -- tick left them
   pub rejection-awaited : (s : Start) (h : History) (x : Exchange) (b : Book) (r : Receipt) → output_after s h ≡ Hands (ItemRecord r)
-      → r.decision ≡ Decision.Rejected → current (log_of s h) ≡ some x → book_before s h ≡ some b
+      → r.decision ≡ Decision.Rejected → current (log_of s h) ≡ Some x → book_before s h ≡ Some b
       → (o : Submission) × (x.call ≡ Submit o) × (ticked : Book) × (t : Ticked o.now b x ticked)
-      × (first_failing (admission o ticked) ≡ some r.reason) × (after : Book) × (book_in (phase_after s h) ≡ some after) × Rejected ticked r after
+      × (first_failing (admission o ticked) ≡ Some r.reason) × (after : Book) × (book_in (phase_after s h) ≡ Some after) × Rejected ticked r after
       × (items : List Item) × (t.later_items ≡ ItemRecord r ∷ items)
   rejection-awaited s h x b r e d q f =
       let k = (rows s h).rejecting x b r e d q f in
@@ -162,7 +162,7 @@ module _ (rows : (s : Start) (h : History) → Refusals s h) where
 
   -- at its answer only count and receipt differ, if the storm is not due
   pub rejection-answered : (s : Start) (h : History) (x : Exchange) (b : Book) (r : Receipt) → output_after s h ≡ Answers (Submitted r)
-      → r.decision ≡ Decision.Rejected → current (log_of s h) ≡ some x → book_before s h ≡ some b
+      → r.decision ≡ Decision.Rejected → current (log_of s h) ≡ Some x → book_before s h ≡ Some b
       → (k : Counted x b r) × (after : Book) × (phase_after s h ≡ Idle after)
       × ((¬ Storms k.counted → Rejected k.book r after) × (Storms k.counted → Stormed x b r k after))
   rejection-answered s h x b r e d q f =
@@ -178,7 +178,7 @@ module _ (rows : (s : Start) (h : History) → Refusals s h) where
       storm k after (inr c) d = c
 
   -- "`lease` with axis 8 or more and `receipt` with an index at or past the count return none."
-  pub past-the-ends : (s : Start) (h : History) (b : Book) → book_in (phase_after s h) ≡ some b
-      → ((axis : ℕ) → 8 ≤ axis → output_after s (Reads (ReadLease axis) ∷ h) ≡ Shows (OfLease none))
-      × ((i : ℕ) → length b.receipts ≤ i → output_after s (Reads (ReadReceipt i) ∷ h) ≡ Shows (OfReceipt none))
+  pub past-the-ends : (s : Start) (h : History) (b : Book) → book_in (phase_after s h) ≡ Some b
+      → ((axis : ℕ) → 8 ≤ axis → output_after s (Reads (ReadLease axis) ∷ h) ≡ Shows (OfLease None))
+      × ((i : ℕ) → length b.receipts ≤ i → output_after s (Reads (ReadReceipt i) ∷ h) ≡ Shows (OfReceipt None))
   past-the-ends s h b e = ((rows s h).no-lease b e, (rows s h).no-receipt b e)

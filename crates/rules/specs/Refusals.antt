@@ -2,7 +2,7 @@
 -- The rows of 01's table ("What the customer meets as a refusal"), for every start, history and call. Which of 111 to 113 comes, and when,
 -- is in Turns.
 use Rattle.std.specs.Prelude.{ℕ, ◌+◌, ◌-◌, ◌≤◌, ◌<◌, true, false, List, [], ◌∷◌, ◌++◌, map, ◌⊎◌, ◌≢◌, ◌↔◌, ◌≡◌, length, take}
-use Rattle.std.proofs.Math.Option.{some, none}
+use Rattle.std.specs.Prelude.{Some, None}
 use Rattle.model.specs.declared.Decision.TheVariants as Decision
 use Rattle.model.specs.declared.LeaseRequest.{LeaseRequest}
 use Rattle.model.specs.declared.Reason.{Reason}
@@ -37,19 +37,19 @@ pub record StartRefusals (s : Start) : Type 0 where
   -- "driver not called", then or later
   pub no-driver : (n : ℕ) → output_after s [] ≡ StartRefused n → (h : History) → log_of s h ≡ []
   -- a sound start hands out the fallbacks one after another, the next one with each reply, until every used axis was tried
-  pub goes_on : (h : History) → SoundStart s → call_of (log_of s h) ≡ none
+  pub goes_on : (h : History) → SoundStart s → call_of (log_of s h) ≡ None
       → start_items (log_of s h)
       ≡ map (λ axis. ItemFallback axis Reason.Startup) (take (length (start_replies (log_of s h)) + 1) (used_axes s.capabilities))
   -- and then it is over: there is a runtime if none failed
-  pub started : (h : History) → SoundStart s → took_effect (output_after s h) ≡ true → call_of (log_of s h) ≡ none → awaited (log_of s h) ≡ none
+  pub started : (h : History) → SoundStart s → took_effect (output_after s h) ≡ true → call_of (log_of s h) ≡ None → awaited (log_of s h) ≡ None
       → ¬ Mem (FellBack false) (start_replies (log_of s h)) → output_after s h ≡ Started
   -- 105 comes of an input, and only so
   pub startup : (i : Input) (h : History) (n : ℕ) → output_after s (i ∷ h) ≡ StartRefused n → (n ≡ 105) × StartupFailed s (log_of s (i ∷ h))
   -- and it comes: a start that goes on no more, after a failure, is refused with it
-  pub refused : (h : History) → SoundStart s → took_effect (output_after s h) ≡ true → call_of (log_of s h) ≡ none → awaited (log_of s h) ≡ none
+  pub refused : (h : History) → SoundStart s → took_effect (output_after s h) ≡ true → call_of (log_of s h) ≡ None → awaited (log_of s h) ≡ None
       → Mem (FellBack false) (start_replies (log_of s h)) → output_after s h ≡ StartRefused 105
   -- "no runtime", then or later
-  pub no-runtime : (h : History) (n : ℕ) → output_after s h ≡ StartRefused n → (later : List Input) → book_in (phase_after s (later ++ h)) ≡ none
+  pub no-runtime : (h : History) (n : ℕ) → output_after s h ≡ StartRefused n → (later : List Input) → book_in (phase_after s (later ++ h)) ≡ None
 
 -- a misplaced call or reply --------------------------------------------------------------------------------------------
 
@@ -71,10 +71,10 @@ pub data Refusable : Call → ℕ → Type 0 where
 -- why a reason refuses a call, in the book that its tick left: the first check that fails; for a cancel that the lease is not held; for a
 -- recovery the two tests that come before its fallbacks
 pub data Refusing : Call → Book → Reason → Type 0 where
-  acquire : {q : LeaseRequest} {now : ℕ} {b : Book} {reason : Reason} → first_failing (acquire_checks q now b) ≡ some reason
+  acquire : {q : LeaseRequest} {now : ℕ} {b : Book} {reason : Reason} → first_failing (acquire_checks q now b) ≡ Some reason
       → Refusing (Acquire q now) b reason
-  renew : {q : Renewal} {b : Book} {reason : Reason} → first_failing (renew_checks q b) ≡ some reason → Refusing (Renew q) b reason
-  cancel : {owner id now : ℕ} {b : Book} → held_axis owner id b ≡ none → Refusing (Cancel owner id now) b Reason.Authority
+  renew : {q : Renewal} {b : Book} {reason : Reason} → first_failing (renew_checks q b) ≡ Some reason → Refusing (Renew q) b reason
+  cancel : {owner id now : ℕ} {b : Book} → held_axis owner id b ≡ None → Refusing (Cancel owner id now) b Reason.Authority
   estopped : {now : ℕ} {b : Book} → meets_estop b.flags b.config ≡ true → Refusing (RecoverLocal now) b Reason.Estop
   unsafe : {now : ℕ} {b : Book} → meets_estop b.flags b.config ≡ false
       → (now < b.last_tick) ⊎ ((b.config.state_ttl_ms ≤ now - b.state_at) ⊎ (exhausted b ≡ true)) → Refusing (RecoverLocal now) b Reason.Precondition
@@ -112,7 +112,7 @@ pub record LeftFaulted (s : Start) (h : History) (x : Exchange) (before : Book) 
 
 -- the calls that succeed, and what was found in the book that their tick left
 pub data Succeeding : Call → Book → Type 0 where
-  cancel : {owner id now axis : ℕ} {b : Book} → held_axis owner id b ≡ some axis → Succeeding (Cancel owner id now) b
+  cancel : {owner id now axis : ℕ} {b : Book} → held_axis owner id b ≡ Some axis → Succeeding (Cancel owner id now) b
   recover : {now : ℕ} {b : Book} → meets_estop b.flags b.config ≡ false → b.last_tick ≤ now → now - b.state_at < b.config.state_ttl_ms
       → exhausted b ≡ false → Succeeding (RecoverLocal now) b
 
@@ -154,7 +154,7 @@ pub record Counted (x : Exchange) (before : Book) (r : Receipt) : Type 0 where
   pub call : x.call ≡ Submit order
   pub book : Book
   pub ticked : Ticked order.now before x book
-  pub why : first_failing (admission order book) ≡ some r.reason
+  pub why : first_failing (admission order book) ≡ Some r.reason
   pub counted : Book
   pub rejected : Rejected book r counted
   -- the receipt is the next item after the tick's
@@ -190,21 +190,21 @@ pub record Refusals (s : Start) (h : History) : Type 0 where
   pub unmet : (i : Input) → output_after s (i ∷ h) ≡ NoRuntime → Unaltered s i h
   pub shown : (i : Input) (v : Value) → output_after s (i ∷ h) ≡ Shows v → Unaltered s i h
   -- a reason other than 16; and 16
-  pub call : (x : Exchange) (b : Book) (reason : Reason) → output_after s h ≡ Answers (Refused reason) → current (log_of s h) ≡ some x
-      → book_before s h ≡ some b → reason ≢ Reason.Driver → LeftAsTicked s h x b reason
-  pub driver : (x : Exchange) (b : Book) → output_after s h ≡ Answers (Refused Reason.Driver) → current (log_of s h) ≡ some x
-      → book_before s h ≡ some b → LeftFaulted s h x b
-  pub success : (x : Exchange) (b : Book) → output_after s h ≡ Answers Succeeded → current (log_of s h) ≡ some x → book_before s h ≡ some b
+  pub call : (x : Exchange) (b : Book) (reason : Reason) → output_after s h ≡ Answers (Refused reason) → current (log_of s h) ≡ Some x
+      → book_before s h ≡ Some b → reason ≢ Reason.Driver → LeftAsTicked s h x b reason
+  pub driver : (x : Exchange) (b : Book) → output_after s h ≡ Answers (Refused Reason.Driver) → current (log_of s h) ≡ Some x
+      → book_before s h ≡ Some b → LeftFaulted s h x b
+  pub success : (x : Exchange) (b : Book) → output_after s h ≡ Answers Succeeded → current (log_of s h) ≡ Some x → book_before s h ≡ Some b
       → Succeeds x b
   -- 01: "order rejected | Reason | its receipt | leases, replay, active orders, but for tick and storm": while its receipt is awaited, and at
   -- its answer
   pub rejecting : (x : Exchange) (b : Book) (r : Receipt) → output_after s h ≡ Hands (ItemRecord r) → r.decision ≡ Decision.Rejected
-      → current (log_of s h) ≡ some x → book_before s h ≡ some b → (k : Counted x b r) × (book_in (phase_after s h) ≡ some k.counted)
+      → current (log_of s h) ≡ Some x → book_before s h ≡ Some b → (k : Counted x b r) × (book_in (phase_after s h) ≡ Some k.counted)
   pub rejected : (x : Exchange) (b : Book) (r : Receipt) → output_after s h ≡ Answers (Submitted r) → r.decision ≡ Decision.Rejected
-      → current (log_of s h) ≡ some x → book_before s h ≡ some b
+      → current (log_of s h) ≡ Some x → book_before s h ≡ Some b
       → (k : Counted x b r) × (after : Book) × (phase_after s h ≡ Idle after) × (Calm x b r k after ⊎ Stormed x b r k after)
   -- 01: "`lease` with axis 8 or more and `receipt` with an index at or past the count return none."
-  pub no-lease : (b : Book) → book_in (phase_after s h) ≡ some b → (axis : ℕ) → 8 ≤ axis
-      → output_after s (Reads (ReadLease axis) ∷ h) ≡ Shows (OfLease none)
-  pub no-receipt : (b : Book) → book_in (phase_after s h) ≡ some b → (i : ℕ) → length b.receipts ≤ i
-      → output_after s (Reads (ReadReceipt i) ∷ h) ≡ Shows (OfReceipt none)
+  pub no-lease : (b : Book) → book_in (phase_after s h) ≡ Some b → (axis : ℕ) → 8 ≤ axis
+      → output_after s (Reads (ReadLease axis) ∷ h) ≡ Shows (OfLease None)
+  pub no-receipt : (b : Book) → book_in (phase_after s h) ≡ Some b → (i : ℕ) → length b.receipts ≤ i
+      → output_after s (Reads (ReadReceipt i) ∷ h) ≡ Shows (OfReceipt None)

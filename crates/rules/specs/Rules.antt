@@ -1,7 +1,7 @@
 -- The rules, under the names and in the order of runtime.rs: each is a function on the book that hands out items and goes on with the
 -- reply. A rule that others build on takes what follows it as `next`.
 use Rattle.std.specs.Prelude.{ℕ, ◌+◌, ◌-◌, min, max, Bool, true, false, cond, not, ◌&&◌, ◌||◌, List, [], ◌∷◌, ltb, leb, eqb, ℤ, take, set}
-use Rattle.std.proofs.Math.Option.{Option, some, none}
+use Rattle.std.specs.Prelude.{Option, Some, None}
 use Rattle.std.specs.Int.Bits.{bit_and, bit_or}
 use Rattle.std.specs.Int.Signed.{le_z}
 use Rattle.model.specs.declared.Active.{Active}
@@ -65,15 +65,15 @@ refresh_state b = with_state (refreshed (any is_some b.leases) b.state) b
 
 -- 01: "lease and active order cleared, epoch plus 1"
 unfoldable pub cleared : ℕ → Book → Book
-cleared axis b = bump_epoch (with_leases (set b.leases axis none) (with_active (set b.active axis none) b))
+cleared axis b = bump_epoch (with_leases (set b.leases axis None) (with_active (set b.active axis None) b))
 
 unfoldable pub lease_id : Option Lease → ℕ
-lease_id none = 0
-lease_id (some l) = l.id
+lease_id None = 0
+lease_id (Some l) = l.id
 
 unfoldable pub lease_owner : Option Lease → ℕ
-lease_owner none = 0
-lease_owner (some l) = l.owner
+lease_owner None = 0
+lease_owner (Some l) = l.owner
 
 -- 01: ".. driver called, receipt written (reason 16 if the driver failed)"
 unfoldable pub fallback : ℕ → Reason → ℕ → Book → (Bool → Book → Interaction) → Interaction
@@ -120,12 +120,12 @@ staleness now b next = cond (is_stale now b && is_armed b.state) (trip Reason.St
 -- 01: "14 if now ≥ lease expiry, else 15 for the active order"
 unfoldable pub due : ℕ → Option Lease → Option Active → Option Reason
 due now lease active =
-    cond (holds_of lease (λ l. leb l.expires_at now)) (some Reason.LeaseExpired)
-    (cond (holds_of active (λ a. leb a.expires_at now)) (some Reason.StreamExpired) none)
+    cond (holds_of lease (λ l. leb l.expires_at now)) (Some Reason.LeaseExpired)
+    (cond (holds_of active (λ a. leb a.expires_at now)) (Some Reason.StreamExpired) None)
 
 unfoldable pub fallback_if : Option Reason → ℕ → ℕ → Book → (Book → Interaction) → Interaction
-fallback_if none axis now b next = next b
-fallback_if (some reason) axis now b next = fallback_or_trip axis reason now b next
+fallback_if None axis now b next = next b
+fallback_if (Some reason) axis now b next = fallback_or_trip axis reason now b next
 
 -- 01: "Then per axis .. a failed fallback trips 16."
 unfoldable pub expiries : List ℕ → ℕ → Book → (Book → Interaction) → Interaction
@@ -238,7 +238,7 @@ new_lease r id now =
 -- 01: "A grant bumps the epoch."
 unfoldable pub granted : Lease → Book → Book
 granted l b =
-    refresh_state (bump_epoch (with_leases (set b.leases l.resource (some l)) (with_next_lease (bump b.next_lease) b)))
+    refresh_state (bump_epoch (with_leases (set b.leases l.resource (Some l)) (with_next_lease (bump b.next_lease) b)))
 
 -- the receipt of a grant or a renewal, and the lease as the answer
 unfoldable pub leased : ℕ → Lease → Reason → ℕ → Book → Interaction
@@ -246,8 +246,8 @@ leased axis l reason now b =
     record_receipt (event axis l.id l.owner Decision.Control reason now b) b (λ r b'. Done b' (Leased l))
 
 unfoldable pub grant : Option Reason → LeaseRequest → ℕ → Book → Interaction
-grant (some reason) r now b = Done b (Refused reason)
-grant none r now b =
+grant (Some reason) r now b = Done b (Refused reason)
+grant None r now b =
     let l = new_lease r b.next_lease now in
     leased r.resource l Reason.LeaseGranted now (granted l b)
 
@@ -271,14 +271,14 @@ extended r l =
 
 -- 01: "It leaves the epoch and may shorten the lease."
 unfoldable pub extend : Renewal → Option ℕ → Option Lease → Book → Interaction
-extend r (some axis) (some l) b =
-    leased axis (extended r l) Reason.LeaseRenewed r.now (with_leases (set b.leases axis (some (extended r l))) b)
-extend r (some axis) none b = Done b (Refused Reason.Authority)
-extend r none l b = Done b (Refused Reason.Authority)
+extend r (Some axis) (Some l) b =
+    leased axis (extended r l) Reason.LeaseRenewed r.now (with_leases (set b.leases axis (Some (extended r l))) b)
+extend r (Some axis) None b = Done b (Refused Reason.Authority)
+extend r None l b = Done b (Refused Reason.Authority)
 
 unfoldable pub renewed : Option Reason → Renewal → Book → Interaction
-renewed (some reason) r b = Done b (Refused reason)
-renewed none r b = extend r (held_axis r.owner r.lease_id b) (held_lease r.owner r.lease_id b) b
+renewed (Some reason) r b = Done b (Refused reason)
+renewed None r b = extend r (held_axis r.owner r.lease_id b) (held_lease r.owner r.lease_id b) b
 
 unfoldable pub renew : Renewal → Book → Interaction
 renew r b = tick r.now b (λ b'. renewed (first_failing (renew_checks r b')) r b')
@@ -287,8 +287,8 @@ renew r b = tick r.now b (λ b'. renewed (first_failing (renew_checks r b')) r b
 
 -- 01: "tick, 3, then fallback; on failure a Driver trip and 16"
 unfoldable pub canceled : Option ℕ → ℕ → Book → Interaction
-canceled none now b = Done b (Refused Reason.Authority)
-canceled (some axis) now b =
+canceled None now b = Done b (Refused Reason.Authority)
+canceled (Some axis) now b =
     fallback axis Reason.Canceled now b
     (λ ok b'. cond ok (Done (refresh_state b') Succeeded) (trip Reason.Driver now b' (λ b''. Done b'' (Refused Reason.Driver))))
 
@@ -298,8 +298,8 @@ cancel owner id now b = tick now b (λ b'. canceled (held_axis owner id b') now 
 -- submit (01, "An order") --------------------------------------------------------------------------------------------
 
 unfoldable pub receipt_number : Option Replay → ℕ
-receipt_number none = 0
-receipt_number (some e) = e.receipt
+receipt_number None = 0
+receipt_number (Some e) = e.receipt
 
 -- 01: "A duplicate's `original_receipt` is the number of the receipt that consumed the id"
 unfoldable pub original : Reason → Submission → Book → ℕ
@@ -340,12 +340,12 @@ unfoldable pub consumed : Capability → Lease → Submission → Book → Book
 consumed c l s b =
     with_replay
     (take replay_capacity (record { owner = s.principal; action_id = s.action.action_id; receipt = b.next_receipt } ∷ b.replay))
-    (with_leases (set b.leases c.resource (some (with_sequence s.action.sequence l))) b)
+    (with_leases (set b.leases c.resource (Some (with_sequence s.action.sequence l))) b)
 
 -- 01: "Otherwise Failed (16 or 17), receipt, trip."
 unfoldable pub fail : Capability → Reason → Progress → Submission → Book → Interaction
 fail c reason p s b =
-    record_receipt (order_receipt s (some c) Decision.Failed reason 0 p b) b
+    record_receipt (order_receipt s (Some c) Decision.Failed reason 0 p b) b
     (λ r b'. trip reason s.now b' (λ b''. Done b'' (Submitted r)))
 
 -- 01: "A Stream is active until the smaller of validity end and lease expiry, both as they were at admission, a Discrete order until
@@ -354,13 +354,13 @@ unfoldable pub stream_end : Lease → Submission → ℕ
 stream_end l s = min (valid_until s) l.expires_at
 
 unfoldable pub active_until : Capability → ExecutionClass → ℕ → Option Active
-active_until c Stream end = some (record { capability = c; expires_at = end })
-active_until c Discrete end = some (record { capability = c; expires_at = top })
-active_until c Control end = none
+active_until c Stream end = Some (record { capability = c; expires_at = end })
+active_until c Discrete end = Some (record { capability = c; expires_at = top })
+active_until c Control end = None
 
 unfoldable pub complete : Capability → ℕ → Progress → Submission → Book → Interaction
 complete c end p s b =
-    record_receipt (order_receipt s (some c) Decision.Executed Reason.Ok 0 p b)
+    record_receipt (order_receipt s (Some c) Decision.Executed Reason.Ok 0 p b)
     (with_active (set b.active c.resource (active_until c c.class end)) (with_invalid_count 0 b))
     (λ r b'. Done b' (Submitted r))
 
@@ -377,17 +377,17 @@ verified (StateIs mask value) parameters seen = eqb (bit_and seen.state mask) va
 
 -- the observation after the execution, which the driver may fail to bring
 unfoldable pub verify : Capability → ℕ → ℕ → Submission → Book → Option Observation → Interaction
-verify c end before s b none =
+verify c end before s b None =
     fail c Reason.Driver
     (record { dispatched = true; pre_state = before; executed_at = s.now; observed_valid = false; observed = not_sent.observed; post_state = 0 }) s b
-verify c end before s b (some seen) =
+verify c end before s b (Some seen) =
     let p : Progress = record { dispatched = true; pre_state = before; executed_at = s.now; observed_valid = true; observed = seen.parameters; post_state = seen.state } in
     cond (verified c.verification s.action.parameters seen) (complete c end p s b) (fail c Reason.Verification p s b)
 
 -- the observation before the execution, which the driver may fail to bring
 unfoldable pub dispatch : Capability → ℕ → Submission → Book → Option Observation → Interaction
-dispatch c end s b none = fail c Reason.Driver not_sent s b
-dispatch c end s b (some seen) =
+dispatch c end s b None = fail c Reason.Driver not_sent s b
+dispatch c end s b (Some seen) =
     Execute c.id s.action.parameters b
     (λ ok.
     cond ok (Observe c.resource b (verify c end seen.state s b))

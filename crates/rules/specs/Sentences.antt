@@ -3,10 +3,10 @@
 use Rattle.std.specs.Prelude.{ℕ, ◌+◌, ◌-◌, ◌<◌, ◌≤◌, ◌^◌, min, true, false, List, [], ◌∷◌, ◌++◌, map, ◌⊎◌, ◌≢◌, ◌↔◌, ◌≡◌, refl, ℤ, ◌≤ℤ◌, take, set}
 use Rattle.std.proofs.lemmas.Bool.{false≢true}
 use Rattle.std.proofs.Common.{inl, inr, ◌∙◌, subst, arith}
-use Rattle.std.proofs.Math.Option.{Option, some, none}
+use Rattle.std.specs.Prelude.{Option, Some, None}
 use Rattle.std.proofs.Math.Path.{sym, ap}
 use Rattle.std.specs.Int.Bits.{bit_and}
-use Rattle.std.proofs.Math.ListN.{get_elem?}
+use Rattle.std.specs.Prelude.{slice_get}
 use Rattle.model.specs.declared.Action.{Action}
 use Rattle.model.specs.declared.Active.{Active}
 use Rattle.model.specs.declared.Bounds.{Bounds}
@@ -87,7 +87,7 @@ falls n (x ∷ before) r between q after f = falls x.receipt_id before r between
 -- a call in hand with these replies, whatever it has handed out
 pub record InHand (c : Call) (rs : List Reply) (l : Log) : Type 0 where
   pub exchange : Exchange
-  pub stands : current l ≡ some exchange
+  pub stands : current l ≡ Some exchange
   pub call : exchange.call ≡ c
   pub replies : exchange.replies ≡ rs
 
@@ -116,7 +116,7 @@ reply-in-hand c rs r out l t k =
     (still-in-hand c (rs ++ (r ∷ [])) out (Replied r ∷ l) t
     (record { exchange = _; stands = ap (with_reply r) k.stands; call = k.call; replies = ap (λ (q : List Reply). q ++ (r ∷ [])) k.replies }))
 
-opened-on : (c : Call) (out : Output) (b : Book) (old : Option Book) → took_effect out ≡ true → opened (Calls c) out (some b) old ≡ some b
+opened-on : (c : Call) (out : Output) (b : Book) (old : Option Book) → took_effect out ≡ true → opened (Calls c) out (Some b) old ≡ Some b
 unfolding opened
 opened-on c out b old t = rw t
 
@@ -158,8 +158,8 @@ took out (inr k) = ap took_effect k.1
 
 -- the call in hand, by the log
 call_in : Option Exchange → Option Call
-call_in none = none
-call_in (some x) = some x.call
+call_in None = None
+call_in (Some x) = Some x.call
 
 calls : (l : Log) → call_in (current l) ≡ call_of l
 unfolding current call_of call_in with_reply with_item
@@ -168,13 +168,13 @@ calls (Took c ∷ l) = refl
 calls (Replied r ∷ l) = same (current l) ∙ calls l
   where
     same : (x : Option Exchange) → call_in (with_reply r x) ≡ call_in x
-    same none = refl
-    same (some x) = refl
+    same None = refl
+    same (Some x) = refl
 calls (Handed i ∷ l) = same (current l) ∙ calls l
   where
     same : (x : Option Exchange) → call_in (with_item i x) ≡ call_in x
-    same none = refl
-    same (some x) = refl
+    same None = refl
+    same (Some x) = refl
 calls (Ended a ∷ l) = calls l
 
 -- a record with an id is one of the records
@@ -197,7 +197,7 @@ pub record Holds (s : Start) (l : Log) (o : Submission) : Type 0 where
   pub known : Mem capability s.capabilities
   pub id : capability.id ≡ o.action.capability
   pub tenancy : Tenancy
-  pub stands : live capability.resource l ≡ some tenancy
+  pub stands : live capability.resource l ≡ Some tenancy
   pub granted : GrantedTo capability.resource tenancy l
   pub lease : tenancy.lease ≡ o.action.lease_id
   pub owner : tenancy.owner ≡ o.principal
@@ -225,9 +225,9 @@ holds {l = l} k =
 
 -- 16 where the driver failed, 17 where what was observed is not what was ordered
 pub failed-by : {v : Verification} {ps : List ℤ} {steps : List Reply} {reason : Reason} → FailedBy v ps steps reason
-    → ((reason ≡ Reason.Driver) × (Mem (Observed none) steps ⊎ Mem (Executed false) steps))
+    → ((reason ≡ Reason.Driver) × (Mem (Observed None) steps ⊎ Mem (Executed false) steps))
     ⊎ ((reason ≡ Reason.Verification) × (first : Observation) × (second : Observation)
-    × (steps ≡ Observed (some first) ∷ Executed true ∷ Observed (some second) ∷ []) × (Verified v ps second → ⊥))
+    × (steps ≡ Observed (Some first) ∷ Executed true ∷ Observed (Some second) ∷ []) × (Verified v ps second → ⊥))
 failed-by unobserved = inl (refl, inl (inl refl))
 failed-by unexecuted = inl (refl, inr (inr (inl refl)))
 failed-by unobserved-after = inl (refl, inl (inr (inr (inl refl))))
@@ -236,10 +236,10 @@ failed-by (unverified n) = inr (refl, _, _, refl, n)
 -- how long an order is active ----------------------------------------------------------------------------------------
 
 pub active-until : {c : Capability} {o : Submission} {l : Lease} {class : ExecutionClass} {a : Option Active} → ActiveSo c o l class a
-    → ((class ≡ Class.Stream) × (x : Active) × (a ≡ some x) × (x.capability ≡ c)
+    → ((class ≡ Class.Stream) × (x : Active) × (a ≡ Some x) × (x.capability ≡ c)
     × (x.expires_at ≡ min (o.received_at + o.action.valid_for_ms) l.expires_at))
-    ⊎ (((class ≡ Class.Discrete) × (x : Active) × (a ≡ some x) × (x.capability ≡ c) × (x.expires_at ≡ top))
-    ⊎ ((class ≡ Class.Control) × (a ≡ none)))
+    ⊎ (((class ≡ Class.Discrete) × (x : Active) × (a ≡ Some x) × (x.capability ≡ c) × (x.expires_at ≡ top))
+    ⊎ ((class ≡ Class.Control) × (a ≡ None)))
 active-until (stream c e) = inl (refl, _, refl, c, e)
 active-until (discrete c e) = inr (inl (refl, _, refl, c, e))
 active-until control = inr (inr (refl, refl))
@@ -277,36 +277,36 @@ module _ (lives : List Life) (claim : Claim lives) where
 
   -- "nothing but a submission reaches it"
   pub nothing-else : (s : Start) (h : History) (c : ℕ) (p : List ℤ) → output_after s h ≡ Hands (ItemExecute c p)
-      → (o : Submission) × (call_of (log_of s h) ≡ some (Submit o)) × (c ≡ o.action.capability) × (p ≡ o.action.parameters)
+      → (o : Submission) × (call_of (log_of s h) ≡ Some (Submit o)) × (c ≡ o.action.capability) × (p ≡ o.action.parameters)
   nothing-else s h c p e = let k = claim.only-submissions s h c p e in (k.submission, k.call, k.capability, k.parameters)
 
   -- "and a submission does so exactly when ..": it is heard like every call, and so is each reply to an item of its, unless a cut comes first
-  pub call-heard : (s : Start) (h : History) (b : Book) → book_in (phase_after s h) ≡ some b → awaited (log_of s h) ≡ none → (c : Call)
-      → Proceeds (output_after s (Calls c ∷ h)) × InHand c [] (log_of s (Calls c ∷ h)) × (book_before s (Calls c ∷ h) ≡ some b)
+  pub call-heard : (s : Start) (h : History) (b : Book) → book_in (phase_after s h) ≡ Some b → awaited (log_of s h) ≡ None → (c : Call)
+      → Proceeds (output_after s (Calls c ∷ h)) × InHand c [] (log_of s (Calls c ∷ h)) × (book_before s (Calls c ∷ h) ≡ Some b)
   unfolding log_of book_before output_after
   call-heard s h b e n c =
       let k = (claim.turns s h).call-taken b e n c in
       let t = took _ k in
       (k, call-in-hand c _ (log_of s h) t, rw e (opened-on c _ b _ t))
 
-  pub reply-heard : (s : Start) (h : History) (i : Item) → awaited (log_of s h) ≡ some i → (c : Call) (rs : List Reply) → InHand c rs (log_of s h)
+  pub reply-heard : (s : Start) (h : History) (i : Item) → awaited (log_of s h) ≡ Some i → (c : Call) (rs : List Reply) → InHand c rs (log_of s h)
       → (r : Reply) → fits i r ≡ true → Proceeds (output_after s (Replies r ∷ h)) × InHand c (rs ++ (r ∷ [])) (log_of s (Replies r ∷ h))
   unfolding log_of output_after call_in
   reply-heard s h i e c rs k r f =
-      let call : call_of (log_of s h) ≡ some c = sym (calls (log_of s h)) ∙ ap call_in k.stands ∙ ap some k.call in
+      let call : call_of (log_of s h) ≡ Some c = sym (calls (log_of s h)) ∙ ap call_in k.stands ∙ ap Some k.call in
       let p = (claim.turns s h).reply-proceeds i e c call r f in
       (p, reply-in-hand c rs r _ (log_of s h) (took _ p) k)
 
   -- a start hears the replies to its fallbacks
-  pub startup-heard : (s : Start) (h : History) (i : Item) → awaited (log_of s h) ≡ some i → (r : Reply) → fits i r ≡ true
+  pub startup-heard : (s : Start) (h : History) (i : Item) → awaited (log_of s h) ≡ Some i → (r : Reply) → fits i r ≡ true
       → took_effect (output_after s (Replies r ∷ h)) ≡ true
   startup-heard s h i e r f = (claim.turns s h).reply-taken i e r f
 
   -- ".. its first observation succeeds, no cut comes first, and every admission check holds by 01's book of that life's history alone"
-  pub exactly-when : (s : Start) (h : History) (x : Exchange) (o : Submission) → current (log_of s h) ≡ some x → x.call ≡ Submit o
-      → (b : Book) × (book_before s h ≡ some b)
+  pub exactly-when : (s : Start) (h : History) (x : Exchange) (o : Submission) → current (log_of s h) ≡ Some x → x.call ≡ Submit o
+      → (b : Book) × (book_before s h ≡ Some b)
       × (Mem (ItemExecute o.action.capability o.action.parameters) x.items
-      ↔ ((seen : Observation) × (after : List Reply) × AdmittedIn b o x (Observed (some seen) ∷ after)))
+      ↔ ((seen : Observation) × (after : List Reply) × AdmittedIn b o x (Observed (Some seen) ∷ after)))
   exactly-when s h x o e call =
       let b = claim.begun s h x e in
       let k = claim.exactly s h x b.0 e b.1 o call in (
@@ -328,8 +328,8 @@ module _ (lives : List Life) (claim : Claim lives) where
       )
 
   -- 01: "An order is admitted exactly if, after its tick, every check of `submit` holds in the book."
-  pub admitted-exactly-if : (s : Start) (h : History) (x : Exchange) (o : Submission) → current (log_of s h) ≡ some x → x.call ≡ Submit o
-      → (b : Book) × (book_before s h ≡ some b)
+  pub admitted-exactly-if : (s : Start) (h : History) (x : Exchange) (o : Submission) → current (log_of s h) ≡ Some x → x.call ≡ Submit o
+      → (b : Book) × (book_before s h ≡ Some b)
       × (((axis : ℕ) × Mem (ItemObserve axis) x.items) ↔ ((later : List Reply) × AdmittedIn b o x later))
   admitted-exactly-if s h x o e call =
       let b = claim.begun s h x e in
@@ -346,7 +346,7 @@ module _ (lives : List Life) (claim : Claim lives) where
 
   -- "Nobody who lacks a live lease .. can have an order carried out"
   pub no-lease-no-move : (s : Start) (h : History) (c : ℕ) (p : List ℤ) → output_after s h ≡ Hands (ItemExecute c p)
-      → (o : Submission) × (call_of (log_of s h) ≡ some (Submit o)) × Holds s (log_of s h) o
+      → (o : Submission) × (call_of (log_of s h) ≡ Some (Submit o)) × Holds s (log_of s h) o
   no-lease-no-move s h c p e =
       let k = claim.only-submissions s h c p e in
       (k.submission, k.call, holds (claim.live-lease s h c p e k))
@@ -354,12 +354,12 @@ module _ (lives : List Life) (claim : Claim lives) where
   -- "Before that, its life's startup fallback succeeded on every used axis."
   pub startup-before : (s : Start) (h : History) (c : ℕ) (p : List ℤ) → output_after s h ≡ Hands (ItemExecute c p)
       → (k : Capability) → Mem k s.capabilities
-      → (n : ℕ) × (get_elem? (start_items (log_of s h)) n ≡ some (ItemFallback k.resource Reason.Startup))
-      × (get_elem? (start_replies (log_of s h)) n ≡ some (FellBack true))
+      → (n : ℕ) × (slice_get (start_items (log_of s h)) n ≡ Some (ItemFallback k.resource Reason.Startup))
+      × (slice_get (start_replies (log_of s h)) n ≡ Some (FellBack true))
   startup-before s h c p e k m = let u = claim.startup-first s h c p e k m in (u.place, u.item, u.reply)
 
   -- and so of every runtime: 01's checks of its start passed, each used axis was tried once, rising, and every reply was good
-  pub runtime-started : (s : Start) (h : History) (b : Book) → book_in (phase_after s h) ≡ some b
+  pub runtime-started : (s : Start) (h : History) (b : Book) → book_in (phase_after s h) ≡ Some b
       → SoundStart s × (axes : List ℕ) × AreUsed s.capabilities axes
       × (start_items (log_of s h) ≡ map (λ axis. ItemFallback axis Reason.Startup) axes) × (start_replies (log_of s h) ≡ map (λ axis. FellBack true) axes)
   runtime-started s h b e =
@@ -368,35 +368,35 @@ module _ (lives : List Life) (claim : Claim lives) where
 
   -- "Where 01's checks of a start pass, these fallbacks succeed and no cut comes first, there is a runtime."
   pub a-runtime : (s : Start) (h : History) → SoundStart s
-      → start_replies (log_of s h) ≡ map (λ axis. FellBack true) (used_axes s.capabilities) → (b : Book) × (book_in (phase_after s h) ≡ some b)
+      → start_replies (log_of s h) ≡ map (λ axis. FellBack true) (used_axes s.capabilities) → (b : Book) × (book_in (phase_after s h) ≡ Some b)
   a-runtime s h sound good = (claim.there-is-a-runtime s h sound good).0
 
   -- 01: "It opens with the start's arguments and the values that a start sets, with no lease, order or receipt"
   pub opens-so : (s : Start) (h : History) → SoundStart s
-      → start_replies (log_of s h) ≡ map (λ axis. FellBack true) (used_axes s.capabilities) → call_of (log_of s h) ≡ none → (b : Book) × (phase_after s h ≡ Idle b) × OpensSo s b
+      → start_replies (log_of s h) ≡ map (λ axis. FellBack true) (used_axes s.capabilities) → call_of (log_of s h) ≡ None → (b : Book) × (phase_after s h ≡ Idle b) × OpensSo s b
   opens-so s h sound good no_call = (claim.there-is-a-runtime s h sound good).1 no_call
 
   -- 01: "A driver call": who is turned away, and what a reading shows ------------------------------------------------------
 
-  pub turned-away : (s : Start) (h : History) (i : Item) → awaited (log_of s h) ≡ some i
+  pub turned-away : (s : Start) (h : History) (i : Item) → awaited (log_of s h) ≡ Some i
       → ((c : Call) → output_after s (Calls c ∷ h) ≡ Reminds 111 i) × ((r : Reply) → fits i r ≡ false → output_after s (Replies r ∷ h) ≡ Reminds 113 i)
   turned-away s h i e = let t = claim.turns s h in (t.call-waits i e, t.reply-other i e)
 
-  pub nothing-awaited : (s : Start) (h : History) → awaited (log_of s h) ≡ none
+  pub nothing-awaited : (s : Start) (h : History) → awaited (log_of s h) ≡ None
       → ((r : Reply) → output_after s (Replies r ∷ h) ≡ Refuses 112)
-      × (book_in (phase_after s h) ≡ none → (c : Call) → output_after s (Calls c ∷ h) ≡ NoRuntime)
-  nothing-awaited s h e = let t = claim.turns s h in (t.reply-none e, λ none c. t.call-unmet none e c)
+      × (book_in (phase_after s h) ≡ None → (c : Call) → output_after s (Calls c ∷ h) ≡ NoRuntime)
+  nothing-awaited s h e = let t = claim.turns s h in (t.reply-none e, λ None c. t.call-unmet None e c)
 
   pub shows-the-book : (s : Start) (h : History) (q : Reading)
-      → ((b : Book) → book_in (phase_after s h) ≡ some b → output_after s (Reads q ∷ h) ≡ Shows (read q b))
-      × (book_in (phase_after s h) ≡ none → output_after s (Reads q ∷ h) ≡ NoRuntime)
+      → ((b : Book) → book_in (phase_after s h) ≡ Some b → output_after s (Reads q ∷ h) ≡ Shows (read q b))
+      × (book_in (phase_after s h) ≡ None → output_after s (Reads q ∷ h) ≡ NoRuntime)
   shows-the-book s h q = let t = claim.turns s h in (λ b e. t.reading b e q, λ e. t.no-reading e q)
 
   -- 01: "Agreement": the book by the history alone ---------------------------------------------------------------------------
 
   -- the check of the lease's last sequence and of the replay ring, over what was admitted before
   pub admitted-afresh : (s : Start) (h : History) (axis : ℕ) → output_after s h ≡ Hands (ItemObserve axis)
-      → (l : Log) × (log_of s h ≡ Handed (ItemObserve axis) ∷ l) × (o : Submission) × (call_of l ≡ some (Submit o))
+      → (l : Log) × (log_of s h ≡ Handed (ItemObserve axis) ∷ l) × (o : Submission) × (call_of l ≡ Some (Submit o))
       × ((k : Capability) × (Mem k s.capabilities) × (k.id ≡ o.action.capability) × (axis ≡ k.resource))
       × (observing l ≡ false → Holds s l o × (highest o.action.lease_id (admissions l) < o.action.sequence)
       × ((a : Admitted) → Mem a (take replay_capacity (admissions l)) → a.submission.principal ≡ o.principal
@@ -415,28 +415,28 @@ module _ (lives : List Life) (claim : Claim lives) where
   -- 01: "Numbers rise by 1 and stay at the top of u64"; a lease is granted on a free axis, with a number below the top
   pub next-number : (s : Start) (h : History) (r : Receipt) → output_after s h ≡ Hands (ItemRecord r)
       → (l : Log) × (log_of s h ≡ Handed (ItemRecord r) ∷ l) × (r.receipt_id ≡ next_number l)
-      × (is_grant r ≡ true → (live r.resource l ≡ none) × (r.lease_id < top))
+      × (is_grant r ≡ true → (live r.resource l ≡ None) × (r.lease_id < top))
   next-number s h r e = let k = claim.records s h r e in (k.0, k.1, k.2.numbered, λ g. (k.2.free g, k.2.below g))
 
   -- "A lease is live from its grant to the next fallback on its axis; its last sequence is the highest admitted under it, or 0"
-  pub lease-by-history : (s : Start) (h : History) (b : Book) → book_in (phase_after s h) ≡ some b → (axis : ℕ) (x : Lease) → lease_at b axis ≡ some x
-      → (t : Tenancy) × (live axis (log_of s h) ≡ some t) × (t.lease ≡ x.id) × (t.owner ≡ x.owner) × (t.capabilities ≡ x.capabilities)
+  pub lease-by-history : (s : Start) (h : History) (b : Book) → book_in (phase_after s h) ≡ Some b → (axis : ℕ) (x : Lease) → lease_at b axis ≡ Some x
+      → (t : Tenancy) × (live axis (log_of s h) ≡ Some t) × (t.lease ≡ x.id) × (t.owner ≡ x.owner) × (t.capabilities ≡ x.capabilities)
       × (t.limits ≡ x.limits) × (t.expires ≡ x.expires_at) × (x.last_sequence ≡ highest x.id (admissions (log_of s h)))
       × (x.resource ≡ axis)
   lease-by-history s h b e axis x q =
       let f = claim.book-facts s h b e in
       (_, f.standing axis x q, refl, refl, refl, refl, refl, f.last axis x q, f.home axis x q)
 
-  pub no-lease-by-history : (s : Start) (h : History) (b : Book) → book_in (phase_after s h) ≡ some b → (axis : ℕ) → lease_at b axis ≡ none
-      → live axis (log_of s h) ≡ none
+  pub no-lease-by-history : (s : Start) (h : History) (b : Book) → book_in (phase_after s h) ≡ Some b → (axis : ℕ) → lease_at b axis ≡ None
+      → live axis (log_of s h) ≡ None
   no-lease-by-history s h b e axis q = (claim.book-facts s h b e).ended axis q
 
   -- "the replay ring is the last 32 admitted", and holds no owner and action id twice
-  pub ring-by-history : (s : Start) (h : History) (b : Book) → book_in (phase_after s h) ≡ some b
+  pub ring-by-history : (s : Start) (h : History) (b : Book) → book_in (phase_after s h) ≡ Some b
       → b.replay ≡ take 32 (map entry_of (admissions (log_of s h)))
   ring-by-history s h b e = (claim.book-facts s h b e).replay
 
-  pub ring-apart : (s : Start) (h : History) (b : Book) → book_in (phase_after s h) ≡ some b
+  pub ring-apart : (s : Start) (h : History) (b : Book) → book_in (phase_after s h) ≡ Some b
       → (before : List Replay) (e : Replay) (between : List Replay) (f : Replay) (after : List Replay)
       → b.replay ≡ before ++ (e ∷ (between ++ (f ∷ after))) → e.owner ≡ f.owner → e.action_id ≢ f.action_id
   ring-apart s h b shows before e between f after q owner action =
@@ -444,18 +444,18 @@ module _ (lives : List Life) (claim : Claim lives) where
       (λ i. record { owner = owner i; action = action i })
 
   -- 01: "Admission order is kept.", below the top of u64: of two receipts kept the older has the smaller number, and the last has the last given
-  pub kept-in-order : (s : Start) (h : History) (b : Book) → book_in (phase_after s h) ≡ some b → b.next_receipt < top
+  pub kept-in-order : (s : Start) (h : History) (b : Book) → book_in (phase_after s h) ≡ Some b → b.next_receipt < top
       → (before : List Receipt) (r : Receipt) (between : List Receipt) (q : Receipt) (after : List Receipt)
       → b.receipts ≡ before ++ (r ∷ (between ++ (q ∷ after))) → r.receipt_id < q.receipt_id
   kept-in-order s h b e room before r between q after same =
       rises 0 b.next_receipt before r between q after (subst (Between 0 b.next_receipt) same ((claim.book-facts s h b e).rising room).order)
 
-  pub last-kept : (s : Start) (h : History) (b : Book) → book_in (phase_after s h) ≡ some b → b.next_receipt < top
+  pub last-kept : (s : Start) (h : History) (b : Book) → book_in (phase_after s h) ≡ Some b → b.next_receipt < top
       → (b.receipts ≡ []) ⊎ ((older : List Receipt) × (r : Receipt) × (b.receipts ≡ older ++ (r ∷ [])) × (r.receipt_id + 1 ≡ b.next_receipt))
   last-kept s h b e room = ((claim.book-facts s h b e).rising room).latest
 
   -- the receipts, their numbers, the flags, the raise number seen and the epoch; what the start said stays
-  pub rest-by-history : (s : Start) (h : History) (b : Book) → book_in (phase_after s h) ≡ some b
+  pub rest-by-history : (s : Start) (h : History) (b : Book) → book_in (phase_after s h) ≡ Some b
       → (b.receipts ≡ receipts_kept (log_of s h)) × (b.next_receipt ≡ next_number (log_of s h)) × (b.flags ≡ flags_of s (log_of s h))
       × (b.estop_seen ≡ seen_raise (log_of s h)) × (b.epoch ≡ min top (1 + bumps s (log_of s h)))
       × (b.config ≡ s.config) × (b.boot_id ≡ s.boot_id) × (b.capabilities ≡ s.capabilities)
@@ -466,12 +466,12 @@ module _ (lives : List Life) (claim : Claim lives) where
   -- what an answer says ----------------------------------------------------------------------------------------------------
 
   -- each call has its own kind of answer
-  pub answered-in-kind : (s : Start) (h : History) (x : Exchange) (a : Answer) → output_after s h ≡ Answers a → current (log_of s h) ≡ some x
+  pub answered-in-kind : (s : Start) (h : History) (x : Exchange) (a : Answer) → output_after s h ≡ Answers a → current (log_of s h) ≡ Some x
       → AnswersTo x.call a
   answered-in-kind s h x a e q = (claim.answers s h).kind x a e q
 
   -- an order is answered with its own receipt, handed out in its own call; it is a rejection unless the order was admitted
-  pub order-told : (s : Start) (h : History) (x : Exchange) (r : Receipt) → output_after s h ≡ Answers (Submitted r) → current (log_of s h) ≡ some x
+  pub order-told : (s : Start) (h : History) (x : Exchange) (r : Receipt) → output_after s h ≡ Answers (Submitted r) → current (log_of s h) ≡ Some x
       → (o : Submission) × (x.call ≡ Submit o) × OfOrder o r × Mem (ItemRecord r) x.items
       × ((((axis : ℕ) × Mem (ItemObserve axis) x.items) × (r.decision ≢ Decision.Rejected))
       ⊎ (((axis : ℕ) → Mem (ItemObserve axis) x.items → ⊥) × (r.decision ≡ Decision.Rejected)))
@@ -479,10 +479,10 @@ module _ (lives : List Life) (claim : Claim lives) where
 
   -- 01: "observe, execute, observe, verify. Executed needs all four."
   pub executed-needs-all-four : (s : Start) (h : History) (x : Exchange) (b : Book) (r : Receipt) → output_after s h ≡ Answers (Submitted r)
-      → current (log_of s h) ≡ some x → book_before s h ≡ some b → r.decision ≡ Decision.Executed
+      → current (log_of s h) ≡ Some x → book_before s h ≡ Some b → r.decision ≡ Decision.Executed
       → (o : Submission) × (x.call ≡ Submit o) × (ticked : Book) × (t : Ticked o.now b x ticked)
       × (c : Capability) × Named o.action.capability ticked.capabilities c × (first : Observation) × (second : Observation)
-      × (t.later ≡ Observed (some first) ∷ Executed true ∷ Observed (some second) ∷ Recorded ∷ [])
+      × (t.later ≡ Observed (Some first) ∷ Executed true ∷ Observed (Some second) ∷ Recorded ∷ [])
       × Verified c.verification o.action.parameters second
   executed-needs-all-four s h x b r e q f d =
       let k = ((claim.answers s h).executed x b r e q f).0 d in
@@ -490,7 +490,7 @@ module _ (lives : List Life) (claim : Claim lives) where
 
   -- 01: "Otherwise Failed (16 or 17), receipt, trip."
   pub otherwise-failed : (s : Start) (h : History) (x : Exchange) (b : Book) (r : Receipt) → output_after s h ≡ Answers (Submitted r)
-      → current (log_of s h) ≡ some x → book_before s h ≡ some b → (axis : ℕ) → Mem (ItemObserve axis) x.items → (AllFour x b → ⊥)
+      → current (log_of s h) ≡ Some x → book_before s h ≡ Some b → (axis : ℕ) → Mem (ItemObserve axis) x.items → (AllFour x b → ⊥)
       → (r.decision ≡ Decision.Failed)
       × (o : Submission) × (x.call ≡ Submit o) × (ticked : Book) × (t : Ticked o.now b x ticked)
       × (c : Capability) × Named o.action.capability ticked.capabilities c
@@ -534,12 +534,12 @@ module _ (lives : List Life) (claim : Claim lives) where
 
   -- and where all four succeed it is Executed
   pub all-four-executed : (s : Start) (h : History) (x : Exchange) (b : Book) (r : Receipt) → output_after s h ≡ Answers (Submitted r)
-      → current (log_of s h) ≡ some x → book_before s h ≡ some b → AllFour x b → r.decision ≡ Decision.Executed
+      → current (log_of s h) ≡ Some x → book_before s h ≡ Some b → AllFour x b → r.decision ≡ Decision.Executed
   all-four-executed s h x b r e q f four = ((claim.answers s h).executed x b r e q f).1 four
 
   -- what it then reports (01: "filled as in `event` and `submit`")
   pub executed-reports : (s : Start) (h : History) (x : Exchange) (b : Book) (r : Receipt) → output_after s h ≡ Answers (Submitted r)
-      → current (log_of s h) ≡ some x → book_before s h ≡ some b → (p : AllFour x b)
+      → current (log_of s h) ≡ Some x → book_before s h ≡ Some b → (p : AllFour x b)
       → (r.reason ≡ Reason.Ok) × (r.resource ≡ p.capability.resource) × (r.dispatched ≡ true) × (r.executed_at ≡ p.order.now)
       × (r.pre_state ≡ p.first.state) × (r.observed_valid ≡ true) × (r.observed ≡ p.second.parameters)
       × (r.post_state ≡ p.second.state)
@@ -549,10 +549,10 @@ module _ (lives : List Life) (claim : Claim lives) where
 
   -- and leaves: the last sequence of its lease, the active order of its axis, the count at 0, and no other of these
   pub executed-leaves : (s : Start) (h : History) (x : Exchange) (b : Book) (r : Receipt) → output_after s h ≡ Answers (Submitted r)
-      → current (log_of s h) ≡ some x → book_before s h ≡ some b → (p : AllFour x b)
+      → current (log_of s h) ≡ Some x → book_before s h ≡ Some b → (p : AllFour x b)
       → (after : Book) × (phase_after s h ≡ Idle after)
-      × (old : Lease) × (lease_at p.book p.capability.resource ≡ some old)
-      × (new : Lease) × (after.leases ≡ set p.book.leases p.capability.resource (some new))
+      × (old : Lease) × (lease_at p.book p.capability.resource ≡ Some old)
+      × (new : Lease) × (after.leases ≡ set p.book.leases p.capability.resource (Some new))
       × (new.last_sequence ≡ p.order.action.sequence) × (new.id ≡ old.id) × (new.owner ≡ old.owner) × (new.resource ≡ old.resource)
       × (new.capabilities ≡ old.capabilities) × (new.limits ≡ old.limits) × (new.expires_at ≡ old.expires_at)
       × (new.last_renewal ≡ old.last_renewal)
@@ -597,19 +597,19 @@ module _ (lives : List Life) (claim : Claim lives) where
 
   -- a lease's answer is what was asked for, its receipt is all that was handed out after the tick, and it stands
   pub lease-told : (s : Start) (h : History) (x : Exchange) (b : Book) (l : Lease) → output_after s h ≡ Answers (Leased l)
-      → current (log_of s h) ≡ some x → book_before s h ≡ some b
+      → current (log_of s h) ≡ Some x → book_before s h ≡ Some b
       → (now : ℕ) × (ticked : Book) × (t : Ticked now b x ticked) × (r : Receipt) × Asked x.call now ticked r l
       × (t.later_items ≡ ItemRecord r ∷ []) × (r.decision ≡ Decision.Control) × (r.lease_id ≡ l.id) × (r.principal ≡ l.owner)
-      × (after : Book) × (phase_after s h ≡ Idle after) × (lease_at after r.resource ≡ some l)
+      × (after : Book) × (phase_after s h ≡ Idle after) × (lease_at after r.resource ≡ Some l)
   lease-told s h x b l e q f =
       let k = (claim.answers s h).lease x b l e q f in
       (k.now, k.ticked-book, k.ticked, k.receipt, k.asked, k.handed, k.control, k.lease, k.owner, k.book, k.idle, k.stands)
 
   -- it leaves the leases of other axes, active orders, the count, the stamp and the clock; a grant takes one lease number, a renewal none
   pub lease-leaves : (s : Start) (h : History) (x : Exchange) (b : Book) (l : Lease) → output_after s h ≡ Answers (Leased l)
-      → current (log_of s h) ≡ some x → book_before s h ≡ some b
+      → current (log_of s h) ≡ Some x → book_before s h ≡ Some b
       → (now : ℕ) × (ticked : Book) × Ticked now b x ticked × (r : Receipt) × (after : Book) × (phase_after s h ≡ Idle after)
-      × (after.leases ≡ set ticked.leases r.resource (some l)) × (after.active ≡ ticked.active)
+      × (after.leases ≡ set ticked.leases r.resource (Some l)) × (after.active ≡ ticked.active)
       × (after.invalid_count ≡ ticked.invalid_count) × (after.state_at ≡ ticked.state_at) × (after.last_tick ≡ ticked.last_tick)
       × (((r.reason ≡ Reason.LeaseGranted) × (after.next_lease ≡ bump ticked.next_lease))
       ⊎ ((r.reason ≡ Reason.LeaseRenewed) × (after.next_lease ≡ ticked.next_lease)))
@@ -632,7 +632,7 @@ module _ (lives : List Life) (claim : Claim lives) where
 
   -- 01: "`acquire`, after tick: readiness; 10; 3; 19 taken; 10 expiry past u64", each as a fact about the book that the tick left
   pub granted-means : (s : Start) (h : History) (x : Exchange) (b : Book) (l : Lease) → output_after s h ≡ Answers (Leased l)
-      → current (log_of s h) ≡ some x → book_before s h ≡ some b → (q : LeaseRequest) (now : ℕ) → x.call ≡ Acquire q now
+      → current (log_of s h) ≡ Some x → book_before s h ≡ Some b → (q : LeaseRequest) (now : ℕ) → x.call ≡ Acquire q now
       → (ticked : Book) × Ticked now b x ticked
       × (ticked.state ≢ State.Estopped) × (ticked.state ≢ State.Faulted) × (ticked.last_tick ≤ now)
       × (now - ticked.state_at < ticked.config.state_ttl_ms)
@@ -641,7 +641,7 @@ module _ (lives : List Life) (claim : Claim lives) where
       × ((y : Bounds) → Mem y q.limits → y.min ≤ℤ y.max)
       × ((n : ℕ) → bit_and q.capabilities (2 ^ n) ≢ 0
       → (c : Capability) × Mem c ticked.capabilities × (c.resource ≡ q.resource) × (c.id ≡ n))
-      × (lease_at ticked q.resource ≡ none) × (now + q.duration_ms ≤ top)
+      × (lease_at ticked q.resource ≡ None) × (now + q.duration_ms ≤ top)
   granted-means s h x b l e u f q now c =
       let k = (claim.answers s h).lease x b l e u f in
       let g = granted-asked c k.asked in
@@ -665,18 +665,18 @@ module _ (lives : List Life) (claim : Claim lives) where
 
   -- and where they all hold it is granted
   pub granted-where : (s : Start) (h : History) (x : Exchange) (b : Book) (a : Answer) → output_after s h ≡ Answers a
-      → current (log_of s h) ≡ some x → book_before s h ≡ some b → (q : LeaseRequest) (now : ℕ) → x.call ≡ Acquire q now
+      → current (log_of s h) ≡ Some x → book_before s h ≡ Some b → (q : LeaseRequest) (now : ℕ) → x.call ≡ Acquire q now
       → (ticked : Book) → Ticked now b x ticked → Grantable q now ticked → (l : Lease) × (a ≡ Leased l)
   granted-where s h x b a e u f q now c ticked t g = (claim.answers s h).grants x b a e u f q now c ticked t g
 
   -- 01: "`renew`: tick, readiness, 10 duration, 3 no lease with this id and owner, 6 renewal not above the last one, 10 overflow"
   pub renewed-means : (s : Start) (h : History) (x : Exchange) (b : Book) (l : Lease) → output_after s h ≡ Answers (Leased l)
-      → current (log_of s h) ≡ some x → book_before s h ≡ some b → (q : Renewal) → x.call ≡ Renew q
+      → current (log_of s h) ≡ Some x → book_before s h ≡ Some b → (q : Renewal) → x.call ≡ Renew q
       → (ticked : Book) × Ticked q.now b x ticked
       × (ticked.state ≢ State.Estopped) × (ticked.state ≢ State.Faulted) × (ticked.last_tick ≤ q.now)
       × (q.now - ticked.state_at < ticked.config.state_ttl_ms)
       × (q.duration_ms ≢ 0) × (q.duration_ms ≤ ticked.config.max_lease_ms)
-      × (axis : ℕ) × (old : Lease) × (lease_at ticked axis ≡ some old) × (old.id ≡ q.lease_id) × (old.owner ≡ q.owner)
+      × (axis : ℕ) × (old : Lease) × (lease_at ticked axis ≡ Some old) × (old.id ≡ q.lease_id) × (old.owner ≡ q.owner)
       × (old.last_renewal < q.renewal) × (q.now + q.duration_ms ≤ top)
   renewed-means s h x b l e u f q c =
       let k = (claim.answers s h).lease x b l e u f in

@@ -2,7 +2,8 @@
 -- those two records and the definitions that they name.
 use Rattle.std.specs.Prelude.{ℕ, ◌+◌, ◌-◌, ◌<◌, ◌≤◌, true, false, List, [], ◌∷◌, ◌++◌, ◌⊎◌, ◌≢◌, ◌≡◌, refl, ℤ}
 use Rattle.std.proofs.Common.{inl, inr, sym, ◌∙◌, subst, arith}
-use Rattle.std.proofs.Math.Option.{Option, some, none, some-ne-none, some-injective}
+use Rattle.std.specs.Prelude.{Option, Some, None}
+use Rattle.model.proofs.Options.{some-ne-none, some-injective}
 use Rattle.std.proofs.Math.Path.{ap}
 use Rattle.std.specs.Int.Bits.{bit_and}
 use Rattle.model.specs.declared.Capability.{Capability}
@@ -30,30 +31,30 @@ use Rattle.rules.specs.StopFacts.{Unready, InEstop, Halted, Throughout, Unlifted
 
 module _ (facts : (s : Start) (h : History) → StateFacts s h) where
   -- 01: "Armed if any lease stands, else SafeIdle", between calls
-  pub armed-if-leased : (s : Start) (h : History) (b : Book) → phase_after s h ≡ Idle b → (axis : ℕ) (x : Lease) → lease_at b axis ≡ some x → b.state ≡ State.Armed
+  pub armed-if-leased : (s : Start) (h : History) (b : Book) → phase_after s h ≡ Idle b → (axis : ℕ) (x : Lease) → lease_at b axis ≡ Some x → b.state ≡ State.Armed
   armed-if-leased s h b e axis x q = ((facts s h).armed-exactly b e).1 (axis, x, q)
 
   pub leased-if-armed : (s : Start) (h : History) (b : Book) → phase_after s h ≡ Idle b → b.state ≡ State.Armed
-      → (axis : ℕ) × (x : Lease) × (lease_at b axis ≡ some x) × (axis_used b.capabilities axis ≡ true)
+      → (axis : ℕ) × (x : Lease) × (lease_at b axis ≡ Some x) × (axis_used b.capabilities axis ≡ true)
   unfolding book_in
   leased-if-armed s h b e armed =
       let l = ((facts s h).armed-exactly b e).0 armed in
-      let shown : book_in (phase_after s h) ≡ some b = ap book_in e in
+      let shown : book_in (phase_after s h) ≡ Some b = ap book_in e in
       (l.0, l.1, l.2, (facts s h).on-used-axis b shown l.0 (λ n. some-ne-none _ (sym l.2 ∙ n)))
 
   -- Faulted or Estopped there is no lease between calls; in SafeIdle there is none at any time
   pub none-while-stopped : (s : Start) (h : History) (b : Book) → phase_after s h ≡ Idle b → Unready b.state → NoLease b
   none-while-stopped s h b e u = (facts s h).stopped-no-lease b e (λ armed. subst Unready armed u)
 
-  pub none-while-idle : (s : Start) (h : History) (b : Book) → book_in (phase_after s h) ≡ some b → b.state ≡ State.SafeIdle → NoLease b
+  pub none-while-idle : (s : Start) (h : History) (b : Book) → book_in (phase_after s h) ≡ Some b → b.state ≡ State.SafeIdle → NoLease b
   none-while-idle s h b e = (facts s h).idle-no-lease b e
 
   -- a bit of the stop mask in the flags: Estopped
-  pub mask-means-estopped : (s : Start) (h : History) (b : Book) → book_in (phase_after s h) ≡ some b → meets_estop b.flags b.config ≡ true → b.state ≡ State.Estopped
+  pub mask-means-estopped : (s : Start) (h : History) (b : Book) → book_in (phase_after s h) ≡ Some b → meets_estop b.flags b.config ≡ true → b.state ≡ State.Estopped
   mask-means-estopped s h b e = (facts s h).mask-only-estopped b e
 
   -- 01, "Known fault": a stamp later than the last tick comes only with a counter at the top
-  pub stamp-in-time : (s : Start) (h : History) (b : Book) → book_in (phase_after s h) ≡ some b → exhausted b ≡ false → b.state_at ≤ b.last_tick
+  pub stamp-in-time : (s : Start) (h : History) (b : Book) → book_in (phase_after s h) ≡ Some b → exhausted b ≡ false → b.state_at ≤ b.last_tick
   stamp-in-time s h b e = (facts s h).stamp-before-tick b e
 
   -- readiness never answers 18
@@ -69,14 +70,14 @@ module _ (facts : (s : Start) (h : History) → StateFacts s h) where
   module _ (s : Start) (h : History) (b : Book) (idle : phase_after s h ≡ Idle b) (now : ℕ) (replies : List Reply) (items : List Item) (b' : Book)
       (run : Runs (tick now b (λ b''. Done b'' Returned)) replies items (Done b' Returned)) where
     -- an expired lease is gone, and its axis fell back
-    pub expired-gone : (axis : ℕ) (x : Lease) → lease_at b axis ≡ some x → x.expires_at ≤ now
-        → (lease_at b' axis ≡ none) × ((reason : Reason) × Mem (ItemFallback axis reason) items)
+    pub expired-gone : (axis : ℕ) (x : Lease) → lease_at b axis ≡ Some x → x.expires_at ≤ now
+        → (lease_at b' axis ≡ None) × ((reason : Reason) × Mem (ItemFallback axis reason) items)
     expired-gone axis x q late = go (lease_at b' axis) refl
       where
-        go : (o : Option Lease) → lease_at b' axis ≡ o → (lease_at b' axis ≡ none) × ((reason : Reason) × Mem (ItemFallback axis reason) items)
-        go none e =
+        go : (o : Option Lease) → lease_at b' axis ≡ o → (lease_at b' axis ≡ None) × ((reason : Reason) × Mem (ItemFallback axis reason) items)
+        go None e =
             (e, ((facts s h).tick-revokes b idle now replies items b' run).fell-back axis (λ n. some-ne-none _ (sym q ∙ n)) e)
-        go (some y) e =
+        go (Some y) e =
             let k = (facts s h).tick-revokes b idle now replies items b' run in
             let same : x ≡ y = some-injective _ _ (sym q ∙ k.stood axis y e) in
             absurd (omega (arith, subst (λ (z : Lease). now < z.expires_at) (sym same) (k.unexpired axis y e)))
@@ -86,14 +87,14 @@ module _ (facts : (s : Start) (h : History) → StateFacts s h) where
     unsupervised-gone (inl gap) = ((facts s h).tick-revokes b idle now replies items b' run).watchdog gap
     unsupervised-gone (inr back) = ((facts s h).tick-revokes b idle now replies items b' run).clock back
 
-    pub armed_after : (axis : ℕ) (x : Lease) → lease_at b' axis ≡ some x → b'.state ≡ State.Armed
+    pub armed_after : (axis : ℕ) (x : Lease) → lease_at b' axis ≡ Some x → b'.state ≡ State.Armed
     armed_after axis x q = ((facts s h).tick-revokes b idle now replies items b' run).armed (axis, x, q)
 
   -- the call does so
   pub tick-does-so : (s : Start) (h : History) (x : Exchange) (b : Book) (now : ℕ) (a : Answer) → output_after s h ≡ Answers a
-      → current (log_of s h) ≡ some x → book_before s h ≡ some b → x.call ≡ Tick now
+      → current (log_of s h) ≡ Some x → book_before s h ≡ Some b → x.call ≡ Tick now
       → (b' : Book) × (phase_after s h ≡ Idle b')
-      × ((axis : ℕ) (y : Lease) → lease_at b' axis ≡ some y → (lease_at b axis ≡ some y) × (now < y.expires_at) × (b'.state ≡ State.Armed))
+      × ((axis : ℕ) (y : Lease) → lease_at b' axis ≡ Some y → (lease_at b axis ≡ Some y) × (now < y.expires_at) × (b'.state ≡ State.Armed))
       × ((b.config.watchdog_ms < now - b.last_tick) ⊎ (now < b.last_tick) → NoLease b')
   tick-does-so s h x b now a e q f call = (k.0, k.1, λ axis y l. (k.2.stood axis y l, k.2.unexpired axis y l, k.2.armed (axis, y, l)), gone)
     where
@@ -105,7 +106,7 @@ module _ (facts : (s : Start) (h : History) → StateFacts s h) where
       gone (inr back) = k.2.clock back
 
   -- a step keeps at most one receipt, the one that it hands out, the newest; a full ring drops its oldest Rejected receipt, else its oldest
-  pub one-at-a-time : (s : Start) (h : History) (b : Book) → book_in (phase_after s h) ≡ some b → (i : Input) (b' : Book) → book_in (phase_after s (i ∷ h)) ≡ some b'
+  pub one-at-a-time : (s : Start) (h : History) (b : Book) → book_in (phase_after s h) ≡ Some b → (i : Input) (b' : Book) → book_in (phase_after s (i ∷ h)) ≡ Some b'
       → (b'.receipts ≡ b.receipts)
       ⊎ ((r : Receipt) × (output_after s (i ∷ h) ≡ Hands (ItemRecord r)) × (left : List Receipt) × MakesRoom b.receipts left
       × (b'.receipts ≡ left ++ (r ∷ [])))
@@ -120,7 +121,7 @@ module _ (facts : StopFacts) where
     after = phase_after s (Calls (EmergencyStop now) ∷ h)
 
     -- Estopped until a recovery is called, and no execute item
-    pub stopped-until-recovery : (is : List Input) → Unrecovered is → (b' : Book) → book_in (phase_from after is) ≡ some b'
+    pub stopped-until-recovery : (is : List Input) → Unrecovered is → (b' : Book) → book_in (phase_from after is) ≡ Some b'
         → (b'.state ≡ State.Estopped) × ((c : ℕ) (ps : List ℤ) → ¬ Mem (Hands (ItemExecute c ps)) (outputs_from after is)) × (¬ Mem (Answers Succeeded) (outputs_from after is))
     stopped-until-recovery is calm b' e =
         let k = facts.stop-blocks s h b idle now in
@@ -141,7 +142,7 @@ module _ (facts : StopFacts) where
     abbrev polled : Phase
     polled = phase_after s (Calls (PollEstop raised now) ∷ h)
 
-    pub raise-stops : (is : List Input) → Unrecovered is → (b' : Book) → book_in (phase_from polled is) ≡ some b'
+    pub raise-stops : (is : List Input) → Unrecovered is → (b' : Book) → book_in (phase_from polled is) ≡ Some b'
         → (b'.state ≡ State.Estopped) × ((c : ℕ) (ps : List ℤ) → ¬ Mem (Hands (ItemExecute c ps)) (outputs_from polled is))
     raise-stops is calm b' e =
         let k = facts.raise-blocks s h b idle raised now new in
@@ -180,9 +181,9 @@ module _ (facts : StopFacts) where
 
   -- proofs.rs, `submit_dispatches_only_admissible_actions`
   pub dispatches-only-admissible : (s : Start) (h : History) (c : ℕ) (ps : List ℤ) → output_after s h ≡ Hands (ItemExecute c ps)
-      → (b : Book) × (book_in (phase_after s h) ≡ some b) × (¬ Unready b.state)
-      × (o : Submission) × (call_of (log_of s h) ≡ some (Submit o)) × (c ≡ o.action.capability) × (ps ≡ o.action.parameters)
-      × (k : Capability) × Named c s.capabilities k × (x : Lease) × (lease_at b k.resource ≡ some x)
+      → (b : Book) × (book_in (phase_after s h) ≡ Some b) × (¬ Unready b.state)
+      × (o : Submission) × (call_of (log_of s h) ≡ Some (Submit o)) × (c ≡ o.action.capability) × (ps ≡ o.action.parameters)
+      × (k : Capability) × Named c s.capabilities k × (x : Lease) × (lease_at b k.resource ≡ Some x)
       × ((o.principal ≢ 0) × (o.principal ≡ o.action.requester) × (x.owner ≡ o.principal) × (x.id ≡ o.action.lease_id) × (o.action.boot_id ≡ s.boot_id))
       × ((bit_and b.flags k.require_set ≡ k.require_set) × (bit_and b.flags k.require_clear ≡ 0) × (bit_and b.flags s.config.estop_mask ≡ 0))
       × ((o.received_at ≤ o.now) × (o.now < o.received_at + o.action.valid_for_ms) × (o.action.execute_after ≤ o.now)

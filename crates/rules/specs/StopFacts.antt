@@ -1,7 +1,7 @@
 -- A runtime that is stopped, and an order that is carried out: three of the Rust's five harnesses (runtime-core/src/proofs.rs), which check
 -- one start and a few calls, as statements on every reachable state. proofs/StopFacts proves them.
 use Rattle.std.specs.Prelude.{ℕ, ◌+◌, ◌≤◌, ◌<◌, Bool, true, false, List, ◌∷◌, ◌++◌, ◌⊎◌, ◌≢◌, ◌≡◌, ℤ}
-use Rattle.std.proofs.Math.Option.{some}
+use Rattle.std.specs.Prelude.{Some}
 use Rattle.std.specs.Int.Bits.{bit_and}
 use Rattle.model.specs.declared.Capability.{Capability}
 use Rattle.model.specs.declared.Decision.TheVariants as Decision
@@ -89,7 +89,7 @@ pub record StillBlocked (N : RuntimeState → Type 0) (p : Phase) (is : List Inp
 
 -- from here on: Estopped until a recovery is called, and no execute item until one succeeds
 pub record BlocksDispatch (p : Phase) : Type 0 where
-  pub estopped : (is : List Input) → Unrecovered is → (b : Book) → book_in (phase_from p is) ≡ some b → b.state ≡ State.Estopped
+  pub estopped : (is : List Input) → Unrecovered is → (b : Book) → book_in (phase_from p is) ≡ Some b → b.state ≡ State.Estopped
   pub unrecovered : (is : List Input) → Unrecovered is → StillBlocked InEstop p is
   pub until-success : NoneUntilSuccess p
 
@@ -103,7 +103,7 @@ pub record Dispatched (s : Start) (l : Log) (b : Book) (c : ℕ) (ps : List ℤ)
   pub capability : Capability
   pub known : Named c s.capabilities capability
   pub lease : Lease
-  pub leased : lease_at b capability.resource ≡ some lease
+  pub leased : lease_at b capability.resource ≡ Some lease
   -- who asks, and in which life
   pub principal : carried.submission.principal ≢ 0
   pub requester : carried.submission.principal ≡ carried.submission.action.requester
@@ -159,6 +159,6 @@ pub record StopFacts : Type 0 where
       → react (Idle b) (Calls (PollEstop b.estop_seen now)) ≡ record { output = Answers (Polled false); phase = Idle b }
   -- `submit_dispatches_only_admissible_actions`
   pub dispatch-admissible : (s : Start) (h : History) (c : ℕ) (ps : List ℤ) → output_after s h ≡ Hands (ItemExecute c ps)
-      → (b : Book) × (book_in (phase_after s h) ≡ some b) × Dispatched s (log_of s h) b c ps
+      → (b : Book) × (book_in (phase_after s h) ≡ Some b) × Dispatched s (log_of s h) b c ps
   -- and what it says of the receipt with which a submission ends
   pub receipt-reports : (s : Start) (h : History) (r : Receipt) → output_after s h ≡ Answers (Submitted r) → Reported (dispatching (log_of s h)) r

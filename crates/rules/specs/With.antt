@@ -1,6 +1,6 @@
 -- The book with one part changed: a function for each part that the rules change. Nothing else stands here.
 use Rattle.std.specs.Prelude.{ℕ, List}
-use Rattle.std.proofs.Math.Option.{Option}
+use Rattle.std.specs.Prelude.{Option}
 use Rattle.model.specs.declared.Lease.{Lease}
 use Rattle.model.specs.declared.Active.{Active}
 use Rattle.model.specs.declared.Replay.{Replay}

@@ -2,7 +2,7 @@
 use Prim.Native.Nat.{ℕ, zero, suc}
 use mathlib.Core.Bool.{Bool, true, false, not, false≢true}
 use mathlib.Core.List.{List, [], ◌∷◌}
-use mathlib.Core.Option.{Option, none}
+use Rattle.std.specs.Prelude.{Option, None}
 use mathlib.Core.Path.{◌≡◌, refl, sym, ap, subst, ◌∙◌}
 use lib.Dec.{T}
 use lib.ListN.{get_or, set, length-set}
@@ -35,7 +35,7 @@ is-no true t = absurd t
 is-no false t = refl
 
 -- a place without anything stays so where nothing is stored
-stays-empty : {A B : Type 0} (f : A → Option B) (d : A) (l : List A) (i j : ℕ) (x : A) → f x ≡ none → f (get_or l j d) ≡ none → f (get_or (set l i x) j d) ≡ none
+stays-empty : {A B : Type 0} (f : A → Option B) (d : A) (l : List A) (i j : ℕ) (x : A) → f x ≡ None → f (get_or l j d) ≡ None → f (get_or (set l i x) j d) ≡ None
 stays-empty f d [] i j x e k = k
 stays-empty f d (a ∷ l) zero zero x e k = e
 stays-empty f d (a ∷ l) zero (suc j) x e k = k

@@ -3,7 +3,7 @@ use Prim.Native.Nat.{ℕ, zero, suc, ◌+◌, ◌<◌, ◌≤◌}
 use mathlib.Core.Bool.{true, false, false≢true}
 use mathlib.Core.List.{List, [], ◌∷◌, map}
 use mathlib.Core.Logic.{⊎_elim}
-use mathlib.Core.Option.{Option, some, none}
+use Rattle.std.specs.Prelude.{Option, Some, None}
 use mathlib.Core.Path.{◌≡◌, refl, sym, ap, ◌∙◌, subst}
 use borrow.Author.Tests.{leb-true, lt-ltb, le-ltb}
 use native.Mathlib.Omega.{arith}
@@ -42,14 +42,14 @@ use Rattle.runtime.proofs.Slots.{shown-set, shown-at}
 
 -- what is looked up -----------------------------------------------------------------------------------------------------------
 
-past : {A : Type 0} (l : List (Option A)) (i : ℕ) → length l ≤ i → get_or l i none ≡ none
+past : {A : Type 0} (l : List (Option A)) (i : ℕ) → length l ≤ i → get_or l i None ≡ None
 past [] i h = refl
 past (a ∷ l) zero h = absurd (omega (arith, h))
 past (a ∷ l) (suc i) h = past l i (omega (arith, h))
 
 module _ (h : Runtime) (g : Good h) (axis : ℕ) where
   abbrev Shows : ℕ → Type 0
-  Shows at = lease_in (get_or h.leases at no_lease) ≡ get_or (tables_in h).leases axis none
+  Shows at = lease_in (get_or h.leases at no_lease) ≡ get_or (tables_in h).leases axis None
 
   low : axis < 8 → Shows axis
   low b = sym (shown-at lease_in no_lease 8 h.leases axis b (rw g.kept.sized.leases (omega (arith, b))))
@@ -68,12 +68,12 @@ module _ (h : Runtime) (g : Good h) (axis : ℕ) where
 
 -- a grant ---------------------------------------------------------------------------------------------------------------------
 
-free : (o : Option Lease) → is_free o ≡ true → o ≡ none
+free : (o : Option Lease) → is_free o ≡ true → o ≡ None
 unfolding is_free
-free none e = refl
-free (some l) e = absurd (false≢true e)
+free None e = refl
+free (Some l) e = absurd (false≢true e)
 
-module _ (h : Runtime) (time : ℕ) (e : first_failing (acquire_checks h.request time (book_on h)) ≡ none) where
+module _ (h : Runtime) (time : ℕ) (e : first_failing (acquire_checks h.request time (book_on h)) ≡ None) where
   pub request-axis : Sound (state_in h) → h.request.resource < 8
   unfolding acquire_checks ready valid_request book_of
   request-axis s =
@@ -86,7 +86,7 @@ module _ (h : Runtime) (time : ℕ) (e : first_failing (acquire_checks h.request
   unfolding acquire_checks ready
   request-fits = leb-true _ _ (none-fails (acquire_checks h.request time (book_on h)) e).1.1.1.1.1.1.1.0
 
-  pub request-free : get_or (tables_in h).leases h.request.resource none ≡ none
+  pub request-free : get_or (tables_in h).leases h.request.resource None ≡ None
   unfolding acquire_checks ready book_of
   request-free = free _ (none-fails (acquire_checks h.request time (book_on h)) e).1.1.1.1.1.1.0
 
@@ -101,8 +101,8 @@ granting-kept h g i k b =
 
 pub grants : (h : Runtime) (time : ℕ) (g : Granting) (z : Runtime) (slot : ℕ) → Good h → h.request.resource < 8
     → PlacesIn false AfterRecord.Lease (granting g h.request.resource h) z slot
-    → Moves (granted g h.request.resource (state_in h)) Answer.Item (proceed (grant none h.request time (book_on h)))
-    → MovesIn (filled_in slot g.receipt z) Answer.Item (proceed (grant none h.request time (book_on h)))
+    → Moves (granted g h.request.resource (state_in h)) Answer.Item (proceed (grant None h.request time (book_on h)))
+    → MovesIn (filled_in slot g.receipt z) Answer.Item (proceed (grant None h.request time (book_on h)))
 unfolding granted grant leased proceed record_receipt event numbered rejected is_rejected kind_in kind_at
 grants h time g z slot k b p v =
     let i = h.request.resource in
@@ -172,7 +172,7 @@ module _ (end renewal i : ℕ) (ls : List LeaseSlot) (sized : length ls ≡ 9) (
   by-presence Present l = refl
 
   lengthened-shown : map lease_in (take 8 (twice end renewal i ls))
-      ≡ set (map lease_in (take 8 ls)) i (lengthened_to end renewal (get_or (map lease_in (take 8 ls)) i none))
+      ≡ set (map lease_in (take 8 ls)) i (lengthened_to end renewal (get_or (map lease_in (take 8 ls)) i None))
   lengthened-shown =
       ap (λ (l : List LeaseSlot). map lease_in (take 8 l)) once
       ∙ shown-set lease_in 8 ls i both b
@@ -180,7 +180,7 @@ module _ (end renewal i : ℕ) (ls : List LeaseSlot) (sized : length ls ≡ 9) (
       (by-presence (get_or ls i no_lease).presence (get_or ls i no_lease).lease
       ∙ ap (lengthened_to end renewal) (sym (shown-at lease_in no_lease 8 ls i b (rw sized (omega (arith, b))))))
 
-module _ (h : Runtime) (e : first_failing (renew_checks h.renewal (book_on h)) ≡ none) where
+module _ (h : Runtime) (e : first_failing (renew_checks h.renewal (book_on h)) ≡ None) where
   pub renewal-fits : h.renewal.now + h.renewal.duration_ms ≤ top
   unfolding renew_checks ready
   renewal-fits = leb-true _ _ (none-fails (renew_checks h.renewal (book_on h)) e).1.1.1.1.1.1.1.0
@@ -213,13 +213,13 @@ lengthening-kept h r i k b =
 -- where no lease is held there is no receipt
 extend-kind : (r : Renewal) (axis : Option ℕ) (l : Option Lease) (b : Book) → kind_of (proceed (extend r axis l b)) ≡ false
 unfolding extend leased proceed record_receipt event numbered rejected is_rejected kind_in kind_at
-extend-kind r (some axis) (some l) b = refl
-extend-kind r (some axis) none b = refl
-extend-kind r none l b = refl
+extend-kind r (Some axis) (Some l) b = refl
+extend-kind r (Some axis) None b = refl
+extend-kind r None l b = refl
 
 pub lengthens : (h : Runtime) (r : Renewing) (i : ℕ) (z : Runtime) (slot : ℕ) → Good h → i < 8 → PlacesIn false AfterRecord.Lease (lengthening r i h) z slot
-    → Moves (lengthened r i h.renewal.renewal (state_in h)) Answer.Item (proceed (renewed none h.renewal (book_on h)))
-    → MovesIn (filled_in slot r.receipt z) Answer.Item (proceed (renewed none h.renewal (book_on h)))
+    → Moves (lengthened r i h.renewal.renewal (state_in h)) Answer.Item (proceed (renewed None h.renewal (book_on h)))
+    → MovesIn (filled_in slot r.receipt z) Answer.Item (proceed (renewed None h.renewal (book_on h)))
 unfolding lengthened renewed
 lengthens h r i z slot k b p v =
     recorded-in (lengthening r i h) (lengthening-kept h r i k.kept b) k.started r.receipt false AfterRecord.Lease z slot p _ (extend-kind h.renewal _ _ (book_on h))

@@ -3,7 +3,7 @@ use Prim.Native.Nat.{ℕ, zero, suc, ◌+◌, ◌-◌, ◌*◌, ◌/◌, ◌%◌
 use mathlib.Core.Bool.{Bool, true, false, not, cond, false≢true}
 use mathlib.Core.List.{List, [], ◌∷◌}
 use mathlib.Core.Logic.{inl, inr}
-use mathlib.Core.Option.{Option, some, none}
+use Rattle.std.specs.Prelude.{Option, Some, None}
 use mathlib.Core.Path.{◌≡◌, refl, sym, ap, ap₂, ◌∙◌}
 use native.Mathlib.Decide.{dec_le}
 use native.Mathlib.Nat.{zero-lt-suc, mod-lt}
@@ -93,13 +93,13 @@ first-none p k (suc n) i within e =
 
 -- the tests
 abbrev pub due_at : Runtime → ℕ → ℕ → Bool
-due_at h time axis = is_some (due time (get_or (tables_in h).leases axis none) (get_or (tables_in h).active axis none))
+due_at h time axis = is_some (due time (get_or (tables_in h).leases axis None) (get_or (tables_in h).active axis None))
 
 abbrev pub forbidden_at : Runtime → ℕ → ℕ → Bool
-forbidden_at h flags axis = holds_of (get_or (tables_in h).active axis none) (λ a. not (permits a.capability flags))
+forbidden_at h flags axis = holds_of (get_or (tables_in h).active axis None) (λ a. not (permits a.capability flags))
 
 abbrev pub held_at : Runtime → ℕ → ℕ → ℕ → Bool
-held_at h owner id axis = holds_of (get_or (tables_in h).leases axis none) (is_held_by owner id)
+held_at h owner id axis = holds_of (get_or (tables_in h).leases axis None) (is_held_by owner id)
 
 module _ (h : Runtime) (good : Good h) where
   -- .. by what stands in the slots
@@ -110,10 +110,10 @@ module _ (h : Runtime) (good : Good h) where
     pub low-order : i < length h.active
     low-order = rw good.kept.sized.active (omega (arith, low))
 
-    lease-at : get_or (tables_in h).leases i none ≡ lease_in (get_or h.leases i no_lease)
+    lease-at : get_or (tables_in h).leases i None ≡ lease_in (get_or h.leases i no_lease)
     lease-at = shown-at lease_in no_lease 8 h.leases i low (rw good.kept.sized.leases (omega (arith, low)))
 
-    order-at : get_or (tables_in h).active i none ≡ active_in (get_or h.active i no_active)
+    order-at : get_or (tables_in h).active i None ≡ active_in (get_or h.active i no_active)
     order-at = shown-at active_in no_active 8 h.active i low (rw good.kept.sized.active (omega (arith, low)))
 
     pub due-at : (time : ℕ)
@@ -129,18 +129,18 @@ module _ (h : Runtime) (good : Good h) where
 
   -- nothing is due before `soonest`
   module _ (time : ℕ) (early : time < h.numbers.soonest) where
-    stands : {A : Type 0} (ends : A → ℕ) (o : Option A) → ((a : A) → o ≡ some a → h.numbers.soonest ≤ ends a)
+    stands : {A : Type 0} (ends : A → ℕ) (o : Option A) → ((a : A) → o ≡ Some a → h.numbers.soonest ≤ ends a)
         → holds_of o (λ a. leb (ends a) time) ≡ false
     unfolding holds_of
-    stands ends none k = refl
-    stands ends (some a) k = lt-leb (ends a) time (omega (arith, k a refl, early))
+    stands ends None k = refl
+    stands ends (Some a) k = lt-leb (ends a) time (omega (arith, k a refl, early))
 
     early-axis : (axis : ℕ) → due_at h time axis ≡ false
     unfolding due is_some
     early-axis axis =
         rw (
-          stands (λ (l : Lease). l.expires_at) (get_or (tables_in h).leases axis none) (good.sound.counted.leases axis),
-          stands (λ (a : Active). a.expires_at) (get_or (tables_in h).active axis none) (good.sound.counted.active axis),
+          stands (λ (l : Lease). l.expires_at) (get_or (tables_in h).leases axis None) (good.sound.counted.leases axis),
+          stands (λ (a : Active). a.expires_at) (get_or (tables_in h).active axis None) (good.sound.counted.active axis),
         )
 
     pub early-none : (i : ℕ) → i ≤ 8 → first_from (due_at h time) 8 ≡ first_from (due_at h time) i
@@ -168,28 +168,28 @@ module _ (h : Runtime) (good : Good h) where
 
 -- nothing on the axes before one ends before it
 pub record SoonestTo (soonest i : ℕ) (h : Runtime) : Type 0 where
-  pub leases : (axis : ℕ) (l : Lease) → axis < i → get_or (tables_in h).leases axis none ≡ some l → soonest ≤ l.expires_at
-  pub active : (axis : ℕ) (a : Active) → axis < i → get_or (tables_in h).active axis none ≡ some a → soonest ≤ a.expires_at
+  pub leases : (axis : ℕ) (l : Lease) → axis < i → get_or (tables_in h).leases axis None ≡ Some l → soonest ≤ l.expires_at
+  pub active : (axis : ℕ) (a : Active) → axis < i → get_or (tables_in h).active axis None ≡ Some a → soonest ≤ a.expires_at
 
 pub soonest-none : (h : Runtime) (soonest : ℕ) → SoonestTo soonest 0 h
 soonest-none h soonest =
     record { leases = λ axis l low e. absurd (omega (arith, low)); active = λ axis a low e. absurd (omega (arith, low)) }
 
 -- one more axis, whose end is this
-ends_on : {A : Type 0} (ends : A → ℕ) (end_of : Option A → ℕ) → ((a : A) → end_of (some a) ≡ ends a)
-    → (t : List (Option A)) (o : Option A) (soonest next i : ℕ) → get_or t i none ≡ o → next ≤ soonest → next ≤ end_of o
-    → ((axis : ℕ) (a : A) → axis < i → get_or t axis none ≡ some a → soonest ≤ ends a)
-    → (axis : ℕ) (a : A) → axis < i + 1 → get_or t axis none ≡ some a → next ≤ ends a
+ends_on : {A : Type 0} (ends : A → ℕ) (end_of : Option A → ℕ) → ((a : A) → end_of (Some a) ≡ ends a)
+    → (t : List (Option A)) (o : Option A) (soonest next i : ℕ) → get_or t i None ≡ o → next ≤ soonest → next ≤ end_of o
+    → ((axis : ℕ) (a : A) → axis < i → get_or t axis None ≡ Some a → soonest ≤ ends a)
+    → (axis : ℕ) (a : A) → axis < i + 1 → get_or t axis None ≡ Some a → next ≤ ends a
 ends_on ends end_of is t o soonest next i at s n k axis a low e = by_cases (dec_le i axis)
   where
     by_cases : Dec (i ≤ axis) → next ≤ ends a
     by_cases (yes p) =
         let same : i ≡ axis = omega (arith, p, low) in
-        let f : end_of o ≡ ends a = ap end_of (sym at ∙ ap (λ (j : ℕ). get_or t j none) same ∙ e) ∙ is a in
+        let f : end_of o ≡ ends a = ap end_of (sym at ∙ ap (λ (j : ℕ). get_or t j None) same ∙ e) ∙ is a in
         omega (arith, n, f)
     by_cases (no p) = omega (arith, s, k axis a (omega (arith, p)) e)
 
-some-inside : {A : Type 0} (t : List (Option A)) (i : ℕ) (a : A) → get_or t i none ≡ some a → i < length t
+some-inside : {A : Type 0} (t : List (Option A)) (i : ℕ) (a : A) → get_or t i None ≡ Some a → i < length t
 unfolding is_some
 some-inside [] i a e = absurd (false≢true (ap is_some e))
 some-inside (x ∷ t) zero a e = omega arith
@@ -298,7 +298,7 @@ module _ (h : Runtime) (good : Good h) (i : ℕ) where
     place_here low y k =
         record { inside = place_inside low; found = sym k ∙ first ∙ rw (lt-ltb i 16 (omega (arith, low, good.kept.placed.count))) }
       where
-        first : with_id id (records_from h i) ≡ some in_hand
+        first : with_id id (records_from h i) ≡ Some in_hand
         first = rw (here low, hits named y)
 
     pub place-past : h.fixed.count ≤ i → with_id id (records_from h i) ≡ with_id id (tables_in h).capabilities → FoundIn id 16 h
@@ -374,7 +374,7 @@ module _ (h : Runtime) (good : Good h) (owner action i : ℕ) where
         found =
             sym k
             ∙ hit owner action 31 (take 32 h.replay) slots-32 h.cursor good.kept.placed.replay.within i low (is-hit ∙ hits _ y)
-            ∙ ap (λ (s : ReplaySlot). some s.replay) slot_at
+            ∙ ap (λ (s : ReplaySlot). Some s.replay) slot_at
             ∙ rw (lt-ltb (place_before h i) 32 below-32);
       }
 
@@ -386,7 +386,7 @@ module _ (h : Runtime) (good : Good h) (owner action i : ℕ) where
       }
 
 -- .. where it is wanted
-hit-in : (t : Bool) (o : Option Replay) (e : Replay) → o ≡ cond t (some e) none
+hit-in : (t : Bool) (o : Option Replay) (e : Replay) → o ≡ cond t (Some e) None
     → (t ≡ is_some o) × (cond t e.receipt 0 ≡ receipt_number o)
 unfolding is_some receipt_number
 hit-in true o e k = rw k (refl, refl)

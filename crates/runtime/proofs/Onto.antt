@@ -2,7 +2,7 @@
 use Prim.Native.Nat.{ℕ, ◌<◌}
 use mathlib.Core.Bool.{Bool, false}
 use mathlib.Core.List.{List}
-use mathlib.Core.Option.{none}
+use Rattle.std.specs.Prelude.{None}
 use mathlib.Core.Path.{◌≡◌, sym, ap, ◌∙◌, subst}
 use native.Mathlib.Omega.{arith}
 use lib.ListN.{length, get_or, set, length-set}
@@ -115,8 +115,8 @@ pub set_other : {A : Type 0} (l : List A) (i j : ℕ) (x d : A) → i < j → ge
 set_other l i j x d h = get_or-set_other l i j x d (λ e. absurd (omega (arith, h, e)))
 
 module _ (h : Runtime) (k : Kept h) (n : Numbers) (axis : ℕ) (v : Revoked) where
-  kept-with : (ls : List LeaseSlot) (os : List ActiveSlot) → length ls ≡ 9 → lease_in (get_or ls 8 no_lease) ≡ none
-      → length os ≡ 9 → active_in (get_or os 8 no_active) ≡ none → Kept (altered n axis v ls os h)
+  kept-with : (ls : List LeaseSlot) (os : List ActiveSlot) → length ls ≡ 9 → lease_in (get_or ls 8 no_lease) ≡ None
+      → length os ≡ 9 → active_in (get_or os 8 no_active) ≡ None → Kept (altered n axis v ls os h)
   kept-with ls os sized spare sized' spare' =
       record {
         sized =

@@ -3,7 +3,8 @@ use Prim.Native.Nat.{ℕ, zero, suc, ◌+◌, ◌<◌, min}
 use mathlib.Core.Bool.{Bool, true, false, false≢true}
 use mathlib.Core.List.{List, [], ◌∷◌, map}
 use mathlib.Core.Logic.{◌≢◌, inl}
-use mathlib.Core.Option.{Option, some, none, none-ne-some}
+use Rattle.std.specs.Prelude.{Option, Some, None}
+use Rattle.std.proofs.lemmas.Option.{none-some}
 use mathlib.Core.Path.{◌≡◌, refl, sym, ap, ◌∙◌, subst}
 use native.Mathlib.Omega.{arith}
 use borrow.Author.Tests.{lt-ltb, ltb-true, ltb-false}
@@ -84,24 +85,24 @@ empties p o l m =
       nothing = λ slots. o.nothing (stores_of p slots);
     }
 
-none-at : {A : Type 0} (n i : ℕ) → get_or {A = Option A} (replicate n none) i none ≡ none
+none-at : {A : Type 0} (n i : ℕ) → get_or {A = Option A} (replicate n None) i None ≡ None
 none-at zero i = refl
 none-at (suc n) zero = refl
 none-at (suc n) (suc i) = none-at n i
 
-none-there : {A : Type 0} (l : List (Option A)) → l ≡ replicate 8 none → (i : ℕ) (a : A) → get_or l i none ≡ some a → ⊥
-none-there {A} l n i a e = none-ne-some _ (sym (ap (λ (m : List (Option A)). get_or m i none) n ∙ none-at 8 i) ∙ e)
+none-there : {A : Type 0} (l : List (Option A)) → l ≡ replicate 8 None → (i : ℕ) (a : A) → get_or l i None ≡ Some a → ⊥
+none-there {A} l n i a e = none-some _ (sym (ap (λ (m : List (Option A)). get_or m i None) n ∙ none-at 8 i) ∙ e)
 
 -- the book that nothing has happened in
-opens-with : (f : Fixed) (n : Numbers) (t : Tables) (c : Config) (time flags : ℕ) → n ≡ numbers_at c time flags → f.config ≡ c → t.leases ≡ replicate 8 none
-    → t.active ≡ replicate 8 none → t.replay ≡ [] → t.receipts ≡ []
+opens-with : (f : Fixed) (n : Numbers) (t : Tables) (c : Config) (time flags : ℕ) → n ≡ numbers_at c time flags → f.config ≡ c → t.leases ≡ replicate 8 None
+    → t.active ≡ replicate 8 None → t.replay ≡ [] → t.receipts ≡ []
     → book_of f n t ≡ opening (record { config = f.config; capabilities = t.capabilities; boot_id = f.boot_id; now = n.last_tick; flags = n.flags })
 unfolding book_of opening
 opens-with f n t c time flags en ec el ea ep er = rw (en, ec, el, ea, ep, er)
 
 -- what the checks and the trial say --------------------------------------------------------------------------------------
 
-refusal-says : (a : Answer) (s : State) (n : ℕ) → refusal_of a ≡ some n → output_of a s ≡ StartRefused n
+refusal-says : (a : Answer) (s : State) (n : ℕ) → refusal_of a ≡ Some n → output_of a s ≡ StartRefused n
 unfolding output_of
 refusal-says Answer.Returned s n e = cc
 refusal-says Answer.Unraised s n e = cc
@@ -122,19 +123,19 @@ refusal-says Answer.InvalidCapability s n e = cc
 refusal-says Answer.DuplicateCapability s n e = cc
 refusal-says Answer.StartupFailed s n e = cc
 
-trial-refused : (a : Answer) (used : List Bool) (n : ℕ) → refusal_of a ≡ some n → first_trial a used ≡ ended_by Stage.Gone false a
+trial-refused : (a : Answer) (used : List Bool) (n : ℕ) → refusal_of a ≡ Some n → first_trial a used ≡ ended_by Stage.Gone false a
 unfolding is_some
 trial-refused a used n e = rw e
 
-trial-tried : (a : Answer) (used : List Bool) → refusal_of a ≡ none → first_used used 0 < 8 → first_trial a used ≡ tried_at (first_used used 0) true
+trial-tried : (a : Answer) (used : List Bool) → refusal_of a ≡ None → first_used used 0 < 8 → first_trial a used ≡ tried_at (first_used used 0) true
 unfolding is_some
 trial-tried a used e h = rw (e, lt-ltb (first_used used 0) 8 h)
 
-start-refused : (s : Start) (n : ℕ) → refused_start s ≡ some n → start s ≡ record { output = StartRefused n; phase = GonePhase }
+start-refused : (s : Start) (n : ℕ) → refused_start s ≡ Some n → start s ≡ record { output = StartRefused n; phase = GonePhase }
 unfolding start start_unless
 start-refused s n e = rw e
 
-start-passed : (s : Start) → refused_start s ≡ none → start s ≡ start_from s (used_from s.capabilities 0) true
+start-passed : (s : Start) → refused_start s ≡ None → start s ≡ start_from s (used_from s.capabilities 0) true
 unfolding start start_unless used_axes used_from axes_from up_from
 start-passed s e = rw e
 
@@ -202,10 +203,10 @@ module _ {c : Config} {s : Listed} {boot time word : ℕ} {trial : Trial} (rt : 
             };
       }
 
-  no-leases : (tables_in rt).leases ≡ replicate 8 none
+  no-leases : (tables_in rt).leases ≡ replicate 8 None
   no-leases = ap (λ (l : List LeaseSlot). map lease_in (take 8 l)) f.leases
 
-  no-orders : (tables_in rt).active ≡ replicate 8 none
+  no-orders : (tables_in rt).active ≡ replicate 8 None
   no-orders = ap (λ (l : List ActiveSlot). map active_in (take 8 l)) f.active
 
   no-entries : (tables_in rt).replay ≡ []
@@ -217,7 +218,7 @@ module _ {c : Config} {s : Listed} {boot time word : ℕ} {trial : Trial} (rt : 
       (f.places.nothing rt.slots)
 
   -- a list that is refused
-  module _ (l : List Capability) (k : Listing s l) (a : Answer) (n : ℕ) (t : trial ≡ ended_by Stage.Gone false a) (e : refusal_of a ≡ some n) where
+  module _ (l : List Capability) (k : Listing s l) (a : Answer) (n : ℕ) (t : trial ≡ ended_by Stage.Gone false a) (e : refusal_of a ≡ Some n) where
     stage-gone : rt.starting.stage ≡ Stage.Gone
     stage-gone = ap (λ (x : Starting). x.stage) f.starting ∙ ap (λ (x : Trial). x.starting.stage) t
 
@@ -345,10 +346,10 @@ module _ {c : Config} {s : Listed} {boot time word : ℕ} {trial : Trial} (rt : 
   moves-fresh a t l k r = by (refused_start (start_on c l boot time word)) refl
     where
       by : (o : Option ℕ) → refused_start (start_on c l boot time word) ≡ o → Moves rt trial.answer (start (start_on c l boot time word))
-      by (some n) e =
+      by (Some n) e =
           moves-gone l k a n (t ∙ trial-refused a rt.fixed.used n (r ∙ e)) (r ∙ e) (start (start_on c l boot time word))
           (start-refused (start_on c l boot time word) n e)
-      by none e =
+      by None e =
           let sane = sound-start (start_on c l boot time word) e in
           let axis = first_used rt.fixed.used 0 in
           let tried = t ∙ trial-tried a rt.fixed.used (r ∙ e) (used-some (checked-fresh l k sane)) in

@@ -2,7 +2,7 @@
 use Prim.Native.Nat.{ℕ, ◌+◌, ◌%◌, ◌<◌, ◌≤◌}
 use mathlib.Core.Bool.{true}
 use mathlib.Core.List.{List, map}
-use mathlib.Core.Option.{Option, none}
+use Rattle.std.specs.Prelude.{Option, None}
 use mathlib.Core.Path.{◌≡◌, refl, sym, ap, ◌∙◌, subst}
 use borrow.Author.Tests.{leb-true, lt-ltb}
 use native.Mathlib.Omega.{arith}
@@ -110,7 +110,7 @@ module _ (sequence i : ℕ) (ls : List LeaseSlot) (sized : length ls ≡ 9) (b :
   by-presence Present l = refl
 
   sequenced-shown : map lease_in (take 8 (set ls i (sequenced_as sequence (get_or ls i no_lease))))
-      ≡ set (map lease_in (take 8 ls)) i (sequenced sequence (get_or (map lease_in (take 8 ls)) i none))
+      ≡ set (map lease_in (take 8 ls)) i (sequenced sequence (get_or (map lease_in (take 8 ls)) i None))
   sequenced-shown =
       shown-set lease_in 8 ls i (sequenced_as sequence (get_or ls i no_lease)) b
       ∙ ap (λ (o : Option Lease). set (map lease_in (take 8 ls)) i o)
@@ -173,7 +173,7 @@ module _ (h : Runtime) (g : Good h) (at : ℕ) (f : FoundIn h.submission.action.
   pub order-shown : ShowsOrder h.submission.action.capability (ltb at 16) capability slot (tables_in h)
   order-shown = record { found = f.found; shown = λ e. spare-shown h g capability.resource }
 
-  module _ (e : first_failing (admission h.submission (book_on h)) ≡ none) where
+  module _ (e : first_failing (admission h.submission (book_on h)) ≡ None) where
     pub order-fits : valid_until h.submission ≤ top
     unfolding admission ready
     order-fits = leb-true _ _ (none-fails (admission h.submission (book_on h)) e).1.1.1.1.1.1.1.1.1.1.1.0

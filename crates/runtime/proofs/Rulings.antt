@@ -1,7 +1,7 @@
 -- What a ruling says of the checks that it answers for, and of the rule that follows. Assumes nothing.
 use Prim.Native.Nat.{ℕ}
 use mathlib.Core.Bool.{Bool, cond}
-use mathlib.Core.Option.{Option, some, none}
+use Rattle.std.specs.Prelude.{Option, Some, None}
 use mathlib.Core.Path.{◌≡◌, refl, sym, ap, ◌∙◌, subst}
 use lib.Dec.{ltb}
 use lib.ListN.{get_or}
@@ -32,10 +32,10 @@ use Rattle.runtime.proofs.Leases.{spare-shown}
 use Rattle.runtime.proofs.Orders.{order-shown}
 
 module _ (r : Ruling) {o : Option Reason} (e : failure_of r ≡ o) where
-  pub passed-so : r.verdict ≡ Verdict.Passed → o ≡ none
+  pub passed-so : r.verdict ≡ Verdict.Passed → o ≡ None
   passed-so p = sym e ∙ ap (λ (v : Verdict). failure_by v r.reason) p
 
-  pub failed-so : r.verdict ≡ Verdict.Failed → o ≡ some r.reason
+  pub failed-so : r.verdict ≡ Verdict.Failed → o ≡ Some r.reason
   failed-so p = sym e ∙ ap (λ (v : Verdict). failure_by v r.reason) p
 
 -- leases ----------------------------------------------------------------------------------------------------------------------
@@ -46,33 +46,33 @@ pub request-shown : (h : Runtime) → Good h
 request-shown h g = record { allowed = refl; shown = spare-shown h g h.request.resource }
 
 module _ (h z : Runtime) (a : Answer) {o : Option Reason} where
-  pub acquires : (time : ℕ) → o ≡ none → MovesIn z a (proceed (grant none h.request time (book_on h)))
+  pub acquires : (time : ℕ) → o ≡ None → MovesIn z a (proceed (grant None h.request time (book_on h)))
       → MovesIn z a (proceed (grant o h.request time (book_on h)))
   acquires time e v = subst (λ (x : Option Reason). MovesIn z a (proceed (grant x h.request time (book_on h)))) (sym e) v
 
-  pub refuses-acquire : (time : ℕ) {reason : Reason} → o ≡ some reason → MovesIn z a (proceed (Done (book_on h) (Refused reason)))
+  pub refuses-acquire : (time : ℕ) {reason : Reason} → o ≡ Some reason → MovesIn z a (proceed (Done (book_on h) (Refused reason)))
       → MovesIn z a (proceed (grant o h.request time (book_on h)))
   unfolding grant
   refuses-acquire time e v = subst (λ (x : Option Reason). MovesIn z a (proceed (grant x h.request time (book_on h)))) (sym e) v
 
-  pub renews : o ≡ none → MovesIn z a (proceed (renewed none h.renewal (book_on h))) → MovesIn z a (proceed (renewed o h.renewal (book_on h)))
+  pub renews : o ≡ None → MovesIn z a (proceed (renewed None h.renewal (book_on h))) → MovesIn z a (proceed (renewed o h.renewal (book_on h)))
   renews e v = subst (λ (x : Option Reason). MovesIn z a (proceed (renewed x h.renewal (book_on h)))) (sym e) v
 
-  pub refuses-renew : {reason : Reason} → o ≡ some reason → MovesIn z a (proceed (Done (book_on h) (Refused reason)))
+  pub refuses-renew : {reason : Reason} → o ≡ Some reason → MovesIn z a (proceed (Done (book_on h) (Refused reason)))
       → MovesIn z a (proceed (renewed o h.renewal (book_on h)))
   unfolding renewed
   refuses-renew e v = subst (λ (x : Option Reason). MovesIn z a (proceed (renewed x h.renewal (book_on h)))) (sym e) v
 
 -- orders ----------------------------------------------------------------------------------------------------------------------
 
-pub rejects-so : (h z : Runtime) (a : Answer) {reason : Reason} → first_failing (admission h.submission (book_on h)) ≡ some reason
+pub rejects-so : (h z : Runtime) (a : Answer) {reason : Reason} → first_failing (admission h.submission (book_on h)) ≡ Some reason
     → MovesIn z a (proceed (reject reason h.submission (book_on h)))
     → MovesIn z a (proceed (admit (validate h.submission (book_on h)) h.submission (book_on h)))
 unfolding admit validate verdict
 rejects-so h z a e v = rw e v
 
 module _ (h : Runtime) (g : Good h) (at : ℕ) (f : FoundIn h.submission.action.capability at h) where
-  pub resource-so : axis_or255 (order_capability h.submission (book_on h)) ≡ axis_or255 (cond (ltb at 16) (some (get_or h.capabilities at no_capability)) none)
+  pub resource-so : axis_or255 (order_capability h.submission (book_on h)) ≡ axis_or255 (cond (ltb at 16) (Some (get_or h.capabilities at no_capability)) None)
   unfolding order_capability book_of
   resource-so = ap axis_or255 f.found
 
@@ -90,7 +90,7 @@ module _ (h : Runtime) (g : Good h) (at : ℕ) (f : FoundIn h.submission.action.
     unfolding replayed book_of
     order-ruled r says = says h.fixed (tables_in h) (ltb at 16) (order-shown h g at f) first (λ e. hit.found (ap passes e))
 
-    pub receipt-so : {reason : Reason} → first_failing (admission h.submission (book_on h)) ≡ some reason
+    pub receipt-so : {reason : Reason} → first_failing (admission h.submission (book_on h)) ≡ Some reason
         → original reason h.submission (book_on h) ≡ x.receipt
     unfolding replayed book_of
     receipt-so {reason} e =

@@ -3,12 +3,13 @@ use Prim.Native.Nat.{ℕ, zero, suc, ◌+◌, ◌<◌, ◌≤◌}
 use mathlib.Core.Bool.{Bool, true, false, cond, false≢true}
 use mathlib.Core.List.{List, [], ◌∷◌}
 use mathlib.Core.Logic.{⊎_elim}
-use mathlib.Core.Option.{Option, some, none}
+use Rattle.std.specs.Prelude.{Option, Some, None}
 use mathlib.Core.Path.{◌≡◌, refl, sym, ap, ap₂, ◌∙◌, subst}
 use borrow.Author.Tests.{lt-ltb, le-ltb}
 use native.Mathlib.Omega.{arith}
 use lib.Dec.{ltb}
-use lib.ListN.{length, get_or, get_elem?, take, length-map, get_or-eq_default}
+use lib.ListN.{length, get_or, take, length-map, get_or-eq_default}
+use Rattle.std.specs.Prelude.{slice_get}
 use lib.Seq.{get_or-take, length-take-le}
 use Rattle.std.specs.List.{slice_get}
 use Rattle.std.specs.Prelude.{Some, None}
@@ -47,7 +48,7 @@ use Rattle.runtime.proofs.Slots.{shown-at}
 -- by the stage of the start ----------------------------------------------------------------------------------------------
 
 -- the book that readings see
-book-at : (w : Awaited) (h : Hand) (q : Asked) (b : Book) → book_in (phase_at w h q b) ≡ some b
+book-at : (w : Awaited) (h : Hand) (q : Asked) (b : Book) → book_in (phase_at w h q b) ≡ Some b
 unfolding book_in wait_book phase_at
 book-at Awaited.Nothing h q b = refl
 book-at Awaited.ObserveBefore h q b = refl
@@ -56,7 +57,7 @@ book-at Awaited.ObserveAfter h q b = refl
 book-at Awaited.Fallback h q b = refl
 book-at Awaited.Record h q b = refl
 
-book-seen : (s : Stage) (rt : Runtime) → book_in (phase_at_stage s rt) ≡ cond (is_started s) (some (book_on rt)) none
+book-seen : (s : Stage) (rt : Runtime) → book_in (phase_at_stage s rt) ≡ cond (is_started s) (Some (book_on rt)) None
 unfolding phase_at_stage phase_of book_in
 book-seen Stage.Trying rt = refl
 book-seen Stage.Gone rt = refl
@@ -81,7 +82,7 @@ none-there false e = refl
 
 -- what is shown there, and what where there is no runtime
 says_at : (q : Reading) (b : Book) (s : Bool → Output) → s false ≡ NoRuntime → (t : Bool) → (t ≡ true → s true ≡ Shows (read q b))
-    → s t ≡ shown q (cond t (some b) none)
+    → s t ≡ shown q (cond t (Some b) None)
 unfolding shown
 says_at q b s off true on = on refl
 says_at q b s off false on = off
@@ -147,8 +148,8 @@ count-reads rt k = number-reads rt ReadReceiptCount (kept_count rt) (ap OfNumber
 lease-count : (ls : List (Option Lease)) → lease_count ls ≡ count_of ls
 unfolding lease_count count_of
 lease-count [] = refl
-lease-count (none ∷ ls) = lease-count ls
-lease-count (some l ∷ ls) = ap suc (lease-count ls)
+lease-count (None ∷ ls) = lease-count ls
+lease-count (Some l ∷ ls) = ap suc (lease-count ls)
 
 snapshot-is : (rt : Runtime) → Kept rt → Sound (state_in rt) → snapshot (book_on rt) ≡ snapshot_of rt.fixed rt.numbers (kept_count rt)
 unfolding snapshot book_of
@@ -169,7 +170,7 @@ snapshot-reads rt k =
 
 module _ (rt : Runtime) (k : Kept rt) (axis : ℕ) where
   abbrev LeaseAt : ℕ → Type 0
-  LeaseAt at = lease_in (get_or rt.leases at no_lease) ≡ get_or (tables_in rt).leases axis none
+  LeaseAt at = lease_in (get_or rt.leases at no_lease) ≡ get_or (tables_in rt).leases axis None
 
   eight : length (tables_in rt).leases ≡ 8
   eight = length-map (take 8 rt.leases) lease_in ∙ length-take-le 8 rt.leases (rw k.sized.leases (omega arith))
@@ -178,7 +179,7 @@ module _ (rt : Runtime) (k : Kept rt) (axis : ℕ) where
   low b = sym (shown-at lease_in no_lease 8 rt.leases axis b (rw k.sized.leases (omega (arith, b))))
 
   high : 8 ≤ axis → LeaseAt 8
-  high b = k.sized.lease ∙ sym (get_or-eq_default (tables_in rt).leases none {n = axis} (rw eight b))
+  high b = k.sized.lease ∙ sym (get_or-eq_default (tables_in rt).leases None {n = axis} (rw eight b))
 
   -- it stands in its slot, or in the spare one
   spare-lease : LeaseAt (spare_or axis)
@@ -187,13 +188,13 @@ module _ (rt : Runtime) (k : Kept rt) (axis : ℕ) where
 
 slot-holds : (o : Option Lease) → lease_in (slot_with o) ≡ o
 unfolding slot_with
-slot-holds none = refl
-slot-holds (some l) = refl
+slot-holds None = refl
+slot-holds (Some l) = refl
 
-slot-blank : (t : Bool) (o : Option Lease) → lease_in (cond t (slot_with o) no_lease) ≡ none → cond t (slot_with o) no_lease ≡ no_lease
+slot-blank : (t : Bool) (o : Option Lease) → lease_in (cond t (slot_with o) no_lease) ≡ None → cond t (slot_with o) no_lease ≡ no_lease
 unfolding slot_with is_some
-slot-blank true none e = refl
-slot-blank true (some l) e = absurd (false≢true (sym (ap is_some e)))
+slot-blank true None e = refl
+slot-blank true (Some l) e = absurd (false≢true (sym (ap is_some e)))
 slot-blank false o e = refl
 
 pub lease-reads : (rt : Runtime) (axis : ℕ) → Kept rt
@@ -211,13 +212,13 @@ lease-reads rt axis k =
 
 -- the record at a place --------------------------------------------------------------------------------------------------
 
-found_at : {A : Type 0} (l : List A) (count i : ℕ) (d : A) → i < length l → i < count → get_elem? (take count l) i ≡ some (get_or l i d)
+found_at : {A : Type 0} (l : List A) (count i : ℕ) (d : A) → i < length l → i < count → slice_get (take count l) i ≡ Some (get_or l i d)
 found_at [] count i d h k = absurd (omega (arith, h))
 found_at (a ∷ l) zero i d h k = absurd (omega (arith, k))
 found_at (a ∷ l) (suc count) zero d h k = refl
 found_at (a ∷ l) (suc count) (suc i) d h k = found_at l count i d (omega (arith, h)) (omega (arith, k))
 
-not_found : {A : Type 0} (l : List A) (count i : ℕ) → count ≤ i → get_elem? (take count l) i ≡ none
+not_found : {A : Type 0} (l : List A) (count i : ℕ) → count ≤ i → slice_get (take count l) i ≡ None
 not_found [] zero i h = refl
 not_found [] (suc count) i h = refl
 not_found (a ∷ l) zero i h = refl
@@ -227,7 +228,7 @@ not_found (a ∷ l) (suc count) (suc i) h = not_found l count i (omega (arith, h
 abbrev record_if : Bool → Capability → CapabilityShown
 record_if t c = cond t (record { runtime = Present; presence = Present; capability = c }) (no_capability_in Present)
 
-record-says : (t : Bool) (c : Capability) → capability_says (record_if t c) ≡ Shows (OfCapability (cond t (some c) none))
+record-says : (t : Bool) (c : Capability) → capability_says (record_if t c) ≡ Shows (OfCapability (cond t (Some c) None))
 record-says true c = refl
 record-says false c = refl
 
@@ -249,7 +250,7 @@ capability-there false at c e = refl
 
 module _ (rt : Runtime) (k : Kept rt) (index : ℕ) where
   abbrev record_at : ℕ → Type 0
-  record_at at = get_elem? (tables_in rt).capabilities index ≡ cond (ltb at 16) (some (get_or rt.capabilities at no_capability)) none
+  record_at at = slice_get (tables_in rt).capabilities index ≡ cond (ltb at 16) (Some (get_or rt.capabilities at no_capability)) None
 
   record-found : index < rt.fixed.count → record_at index
   record-found b =
@@ -285,7 +286,7 @@ module _ (rt : Runtime) (k : Kept rt) (index : ℕ) where
 abbrev receipt_if : Bool → Receipt → ReceiptShown
 receipt_if t r = cond t (record { runtime = Present; presence = Present; receipt = r }) (no_receipt_in Present)
 
-receipt-says : (t : Bool) (r : Receipt) → receipt_says (receipt_if t r) ≡ Shows (OfReceipt (cond t (some r) none))
+receipt-says : (t : Bool) (r : Receipt) → receipt_says (receipt_if t r) ≡ Shows (OfReceipt (cond t (Some r) None))
 receipt-says true r = refl
 receipt-says false r = refl
 
@@ -307,10 +308,10 @@ receipt-there false slot r e = refl
 
 -- an element of a list, in the rules' words
 abbrev option_of : {A : Type 0} → Prelude.Option A → Option A
-option_of None = none
-option_of (Some x) = some x
+option_of None = None
+option_of (Some x) = Some x
 
-element : {A : Type 0} (xs : List A) (k : ℕ) → get_elem? xs k ≡ option_of (slice_get xs k)
+element : {A : Type 0} (xs : List A) (k : ℕ) → slice_get xs k ≡ option_of (slice_get xs k)
 element [] k = refl
 element (x ∷ xs) zero = refl
 element (x ∷ xs) (suc k) = element xs k
@@ -321,7 +322,7 @@ module _ (rt : Runtime) (k : Kept rt) (index : ℕ) where
   slot_for a b = cond (ltb a 64) (get_or rt.places.rejected a 0) (cond (ltb b 64) (get_or rt.places.others b 0) 64)
 
   abbrev FoundAt : ℕ → Type 0
-  FoundAt s = (s < 65) × (get_elem? (receipts_in rt) index ≡ cond (ltb s 64) (some (get_or rt.slots s no_receipt)) none)
+  FoundAt s = (s < 65) × (slice_get (receipts_in rt) index ≡ cond (ltb s 64) (Some (get_or rt.slots s no_receipt)) None)
 
   at_slot : (s : ℕ) → s < 64 → slice_get (receipts_in rt) index ≡ Some (get_or (take 64 rt.slots) s no_receipt) → FoundAt s
   at_slot s l e = (omega (arith, l), element (receipts_in rt) index ∙ ap option_of e ∙ rw (lt-ltb s 64 l, get_or-take 64 rt.slots s no_receipt l))
@@ -397,7 +398,7 @@ module _ (rt : Runtime) where
   item-at : (s : Stage) → SoundAt s rt → item_on rt.waiting.awaited ≡ shown_item (awaited_in (phase_at_stage s rt))
   unfolding SoundAt phase_at_stage phase_of item_from
   item-at Stage.Trying k =
-      ap item_on k.awaited ∙ ap (λ (x : Reason). shown_item (some (ItemFallback rt.falling.axis x))) k.opened.reason
+      ap item_on k.awaited ∙ ap (λ (x : Reason). shown_item (Some (ItemFallback rt.falling.axis x))) k.opened.reason
   item-at Stage.Gone k = ap item_on k
   item-at Stage.Started k = item-from-awaited rt.waiting.awaited (hand_in rt) (asked_in rt) (book_on rt)
 

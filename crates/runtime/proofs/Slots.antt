@@ -1,7 +1,7 @@
 -- Tables with an element more than they show: what a store and a look-up are, seen through what the slots hold. Assumes nothing.
 use Prim.Native.Nat.{ℕ, zero, suc, ◌<◌, ◌≤◌}
 use mathlib.Core.List.{List, [], ◌∷◌, map}
-use mathlib.Core.Option.{Option, none}
+use Rattle.std.specs.Prelude.{Option, None}
 use mathlib.Core.Path.{◌≡◌, refl, ap, ◌∙◌}
 use native.Mathlib.Omega.{arith}
 use Rattle.model.specs.declared.Lease.{Lease}
@@ -29,7 +29,7 @@ module _ {A B : Type 0} (f : A → Option B) (n : ℕ) (l : List A) where
 
 -- what is looked up is what is shown
 pub shown-at : {A B : Type 0} (f : A → Option B) (d : A) (n : ℕ) (l : List A) (i : ℕ) → i < n → i < length l
-    → get_or (map f (take n l)) i none ≡ f (get_or l i d)
+    → get_or (map f (take n l)) i None ≡ f (get_or l i d)
 shown-at f d zero l i h k = absurd (omega arith)
 shown-at f d (suc n) [] i h k = absurd (omega arith)
 shown-at f d (suc n) (a ∷ l) zero h k = refl

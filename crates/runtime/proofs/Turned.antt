@@ -1,6 +1,6 @@
 -- What a reply leaves: it is turned away and alters nothing, or it goes on. Assumes nothing.
 use mathlib.Core.Bool.{Bool, true, false, false≢true}
-use mathlib.Core.Option.{some}
+use Rattle.std.specs.Prelude.{Some}
 use mathlib.Core.Path.{◌≡◌, refl, sym, ap, subst, ◌∙◌}
 use Rattle.model.specs.declared.Reason.TheVariants as Reason
 use Rattle.rules.specs.Interaction.{Interaction, Submitted, Done, Observe, Execute, Fallback, Record}
@@ -145,7 +145,7 @@ module _ (h : Runtime) (good : Good h) where
     observed-last p = (rw p at e).0
 
     pub observed-completes : {z : Runtime} {r : Answer} → k ≡ OnObserved.Completes
-        → MovesIn z r (proceed (complete (order_in h).capability h.carrying.end (seen_by h.carrying.pre_state h.submission.now (some o.observation)) h.submission (book_on h)))
+        → MovesIn z r (proceed (complete (order_in h).capability h.carrying.end (seen_by h.carrying.pre_state h.submission.now (Some o.observation)) h.submission (book_on h)))
         → TurnsIn h z r Seen
     unfolding ObservesAs
     observed-completes p m = goes_on _ (rw p at e).1 m

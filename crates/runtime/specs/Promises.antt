@@ -1,6 +1,6 @@
 -- What the functions over a lent runtime ask and promise.
 use Rattle.std.specs.Prelude.{ℕ, ◌<◌, ◌≤◌, Bool, true, false, cond, ◌≡◌, ltb, get_or}
-use Rattle.std.proofs.Math.Option.{some, none}
+use Rattle.std.specs.Prelude.{Some, None}
 use Rattle.model.specs.declared.Active.{Active}
 use Rattle.model.specs.declared.Lease.{Lease}
 use Rattle.model.specs.Records.{no_capability, no_replay}
@@ -106,18 +106,18 @@ spare_or axis = cond (ltb axis 8) axis 8
 
 -- no lease and no active order ends before it
 pub record SoonestIn (soonest : ℕ) (h : Runtime) : Type 0 where
-  pub leases : (axis : ℕ) (l : Lease) → get_or (tables_in h).leases axis none ≡ some l → soonest ≤ l.expires_at
-  pub active : (axis : ℕ) (a : Active) → get_or (tables_in h).active axis none ≡ some a → soonest ≤ a.expires_at
+  pub leases : (axis : ℕ) (l : Lease) → get_or (tables_in h).leases axis None ≡ Some l → soonest ≤ l.expires_at
+  pub active : (axis : ℕ) (a : Active) → get_or (tables_in h).active axis None ≡ Some a → soonest ≤ a.expires_at
 
 -- the place of the first record with this id, or 16
 pub record FoundIn (id r : ℕ) (h : Runtime) : Type 0 where
   pub inside : r < 17
-  pub found : with_id id (tables_in h).capabilities ≡ cond (ltb r 16) (some (get_or h.capabilities r no_capability)) none
+  pub found : with_id id (tables_in h).capabilities ≡ cond (ltb r 16) (Some (get_or h.capabilities r no_capability)) None
 
 -- the place of the newest entry of an order, or 32
 pub record EntryIn (owner action r : ℕ) (h : Runtime) : Type 0 where
   pub inside : r < 33
-  pub found : find_entry owner action (tables_in h).replay ≡ cond (ltb r 32) (some (get_or h.replay r no_replay).replay) none
+  pub found : find_entry owner action (tables_in h).replay ≡ cond (ltb r 32) (Some (get_or h.replay r no_replay).replay) None
 
 abbrev pub hit_of : ℕ → ℕ → Hit
 hit_of at receipt = record { found = ltb at 32; receipt = cond (ltb at 32) receipt 0 }

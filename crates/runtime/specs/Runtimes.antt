@@ -1,6 +1,6 @@
 -- Which state a runtime is, and what it is sound by.
 use Rattle.std.specs.Prelude.{ℕ, ◌<◌, ◌≤◌, List, map, ◌≡◌, length, get_or, take}
-use Rattle.std.proofs.Math.Option.{none}
+use Rattle.std.specs.Prelude.{None}
 use Rattle.model.specs.declared.Receipt.{Receipt}
 use Rattle.model.specs.Records.{no_lease, no_active, no_capability, no_receipt}
 use Rattle.receipts.specs.Indexes.{Stores, list_of}
@@ -98,8 +98,8 @@ pub record Sized (rt : Runtime) : Type 0 where
   pub rejected : length rt.places.rejected ≡ 65
   pub others : length rt.places.others ≡ 65
   pub slots : length rt.slots ≡ 65
-  pub lease : lease_in (get_or rt.leases 8 no_lease) ≡ none
-  pub order : active_in (get_or rt.active 8 no_active) ≡ none
+  pub lease : lease_in (get_or rt.leases 8 no_lease) ≡ None
+  pub order : active_in (get_or rt.active 8 no_active) ≡ None
 
 -- what stands at the places that are stored
 pub record Placed (rt : Runtime) : Type 0 where

@@ -1,6 +1,6 @@
 -- Where a runtime stands, its start included, and what the public functions ask and promise.
 use Rattle.std.specs.Prelude.{ℕ, ◌+◌, true, false, List, [], ◌≡◌, length}
-use Rattle.std.proofs.Math.Option.{none}
+use Rattle.std.specs.Prelude.{None}
 use Rattle.model.specs.declared.Presence.TheVariants.{Absent}
 use Rattle.model.specs.declared.Reason.TheVariants.{Startup}
 use Rattle.model.specs.declared.Receipt.{Receipt}
@@ -127,7 +127,7 @@ pub record SnapshotReads (rt : Runtime) (r : SnapshotShown) : Type 0 where
 
 pub record LeaseReads (axis : ℕ) (rt : Runtime) (r : LeaseShown) : Type 0 where
   pub shows : lease_says r ≡ shown (ReadLease axis) (book_in (phase_in rt))
-  pub blank : lease_in r.slot ≡ none → r.slot ≡ no_lease
+  pub blank : lease_in r.slot ≡ None → r.slot ≡ no_lease
   pub unread : r.runtime ≡ Absent → r.slot ≡ no_lease
 
 pub record CapabilityReads (index : ℕ) (rt : Runtime) (r : CapabilityShown) : Type 0 where

@@ -3,7 +3,7 @@
 #![tactic(auto)]
 
 ghost use Rattle.std.specs.Prelude.{◌+◌, ◌-◌, ◌%◌, ◌≤◌, ◌<◌, true, List, ◌≡◌, get_or};
-ghost use Rattle.std.proofs.Math.Option.{some, none};
+ghost use Rattle.std.specs.Prelude.{Some, None};
 ghost use Rattle.model.specs.declared.Capability.{Capability as CapabilityRecord};
 ghost use Rattle.model.specs.Records.{no_lease};
 ghost use Rattle.replay.specs.Ring.{held};
@@ -650,8 +650,8 @@ pub fn axis_or_spare(axis: u8) -> usize
 
 // A lease and its receipt.
 fn grant(rt: &mut Runtime, time: u64) -> Answer
-    requires { Good rt.old × (first_failing (acquire_checks rt.old.request time (book_on rt.old)) ≡ none) }
-    ensures { MovesIn rt.new result (proceed (grant_rule none rt.old.request time (book_on rt.old))) }
+    requires { Good rt.old × (first_failing (acquire_checks rt.old.request time (book_on rt.old)) ≡ None) }
+    ensures { MovesIn rt.new result (proceed (grant_rule None rt.old.request time (book_on rt.old))) }
 {
     let request = rt.request;
     let fixed = rt.fixed;
@@ -689,8 +689,8 @@ fn acquire_on(rt: &mut Runtime, time: u64) -> Answer
 
 // A lease's new end, and its receipt.
 fn lengthen(rt: &mut Runtime, axis: u8) -> Answer
-    requires { Good rt.old × ((axis ≡ first_held rt.old.renewal.owner rt.old.renewal.lease_id (tables_in rt.old).leases) × (first_failing (renew_checks rt.old.renewal (book_on rt.old)) ≡ none)) }
-    ensures { MovesIn rt.new result (proceed (renewed_rule none rt.old.renewal (book_on rt.old))) }
+    requires { Good rt.old × ((axis ≡ first_held rt.old.renewal.owner rt.old.renewal.lease_id (tables_in rt.old).leases) × (first_failing (renew_checks rt.old.renewal (book_on rt.old)) ≡ None)) }
+    ensures { MovesIn rt.new result (proceed (renewed_rule None rt.old.renewal (book_on rt.old))) }
 {
     let renewal = rt.renewal;
     let fixed = rt.fixed;
@@ -754,7 +754,7 @@ pub fn next_place(cursor: usize) -> usize
 
 // An order admitted: its sequence and its number are consumed.
 fn admit(rt: &mut Runtime, at: usize) -> Answer
-    requires { Good rt.old × (FoundIn rt.old.submission.action.capability at rt.old × (first_failing (admission rt.old.submission (book_on rt.old)) ≡ none)) }
+    requires { Good rt.old × (FoundIn rt.old.submission.action.capability at rt.old × (first_failing (admission rt.old.submission (book_on rt.old)) ≡ None)) }
     ensures { MovesIn rt.new result (proceed (admit_rule (validate rt.old.submission (book_on rt.old)) rt.old.submission (book_on rt.old))) }
 {
     let submission = rt.submission;
@@ -837,7 +837,7 @@ fn fail(rt: &mut Runtime, reason: Reason, progress: Progress) -> Answer
 // What an executed order leaves, and its receipt.
 fn complete(rt: &mut Runtime, seen: Observation) -> Answer
     requires { Good rt.old × (rt.old.waiting.awaited ≡ ObserveAfter) }
-    ensures { MovesIn rt.new result (proceed (complete_rule (order_in rt.old).capability rt.old.carrying.end (seen_by rt.old.carrying.pre_state rt.old.submission.now (some seen)) rt.old.submission (book_on rt.old))) }
+    ensures { MovesIn rt.new result (proceed (complete_rule (order_in rt.old).capability rt.old.carrying.end (seen_by rt.old.carrying.pre_state rt.old.submission.now (Some seen)) rt.old.submission (book_on rt.old))) }
 {
     let fixed = rt.fixed;
     let numbers = rt.numbers;

@@ -1,6 +1,6 @@
 -- The axes from one on, for loops that are left and taken up again, and the first of them that a test finds.
 use Rattle.std.specs.Prelude.{ℕ, zero, suc, ◌+◌, ◌-◌, Bool, false, not, List, [], ◌∷◌, get_or}
-use Rattle.std.proofs.Math.Option.{Option, none}
+use Rattle.std.specs.Prelude.{Option, None}
 use Rattle.model.specs.declared.Active.{Active}
 use Rattle.model.specs.declared.Capability.{Capability}
 use Rattle.model.specs.declared.Lease.{Lease}
@@ -36,12 +36,12 @@ first_used marks i = first_from (λ axis. get_or marks axis false) i
 
 -- .. whose lease or order is over
 abbrev pub first_due : ℕ → List (Option Lease) → List (Option Active) → ℕ → ℕ
-first_due now leases active i = first_from (λ axis. is_some (due now (get_or leases axis none) (get_or active axis none))) i
+first_due now leases active i = first_from (λ axis. is_some (due now (get_or leases axis None) (get_or active axis None))) i
 
 -- .. whose order the flags forbid
 abbrev pub first_forbidden : ℕ → List (Option Active) → ℕ → ℕ
-first_forbidden flags active i = first_from (λ axis. holds_of (get_or active axis none) (λ a. not (permits a.capability flags))) i
+first_forbidden flags active i = first_from (λ axis. holds_of (get_or active axis None) (λ a. not (permits a.capability flags))) i
 
 -- .. on which this owner has the lease with this id
 abbrev pub first_held : ℕ → ℕ → List (Option Lease) → ℕ
-first_held owner id leases = first_from (λ axis. holds_of (get_or leases axis none) (is_held_by owner id)) 0
+first_held owner id leases = first_from (λ axis. holds_of (get_or leases axis None) (is_held_by owner id)) 0

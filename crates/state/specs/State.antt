@@ -1,7 +1,7 @@
 -- What the parts of the state stand for, whatever they are stored in: the book that they keep, the item whose reply is awaited, and the rest
 -- of the call that the stored place denotes. Then soundness, and where a state is left.
 use Rattle.std.specs.Prelude.{ℕ, suc, ◌+◌, ◌<◌, ◌≤◌, Bool, true, false, cond, ◌&&◌, List, [], ◌∷◌, ◌≢◌, ◌≡◌, length, get_or}
-use Rattle.std.proofs.Math.Option.{Option, some, none}
+use Rattle.std.specs.Prelude.{Option, Some, None}
 use Rattle.model.specs.declared.Active.{Active}
 use Rattle.model.specs.declared.ActiveSlot.{ActiveSlot}
 use Rattle.model.specs.declared.Capability.{Capability}
@@ -53,12 +53,12 @@ use Rattle.state.specs.declared.Waiting.{Waiting}
 -- the parts ------------------------------------------------------------------------------------------------------------
 
 abbrev pub lease_if : Presence → Lease → Option Lease
-lease_if Absent l = none
-lease_if Present l = some l
+lease_if Absent l = None
+lease_if Present l = Some l
 
 abbrev pub active_if : Presence → Active → Option Active
-active_if Absent a = none
-active_if Present a = some a
+active_if Absent a = None
+active_if Present a = Some a
 
 -- what a slot of a table holds
 abbrev pub lease_in : LeaseSlot → Option Lease
@@ -212,8 +212,8 @@ after_executed o s b ok =
     (record { dispatched = true; pre_state = o.pre_state; executed_at = 0; observed_valid = false; observed = not_sent.observed; post_state = 0 }) s b)
 
 unfoldable pub lease_or : Lease → Option Lease → Lease
-lease_or d none = d
-lease_or d (some l) = l
+lease_or d None = d
+lease_or d (Some l) = l
 
 -- the lease that is answered: the one that stands on the axis; where none does, a blank
 abbrev pub answered_lease : Book → ℕ → Lease
@@ -316,20 +316,20 @@ pub record Checked (cs : List Capability) (marks : List Bool) : Type 0 where
 -- how many leases stand
 unfoldable pub count_of : List (Option Lease) → ℕ
 count_of [] = 0
-count_of (none ∷ ls) = count_of ls
-count_of (some l ∷ ls) = suc (count_of ls)
+count_of (None ∷ ls) = count_of ls
+count_of (Some l ∷ ls) = suc (count_of ls)
 
 -- eight axes each; an active order has a lease on its axis
 pub record Sized (ls : List (Option Lease)) (os : List (Option Active)) : Type 0 where
   pub leases : length ls ≡ 8
   pub active : length os ≡ 8
-  pub under : (axis : ℕ) (a : Active) → get_or os axis none ≡ some a → is_some (get_or ls axis none) ≡ true
+  pub under : (axis : ℕ) (a : Active) → get_or os axis None ≡ Some a → is_some (get_or ls axis None) ≡ true
 
 -- what the numbers say of the tables: the leases are counted, and none of them and no active order ends before `soonest`
 pub record Counted (n soonest : ℕ) (ls : List (Option Lease)) (os : List (Option Active)) : Type 0 where
   pub held : n ≡ count_of ls
-  pub leases : (axis : ℕ) (l : Lease) → get_or ls axis none ≡ some l → soonest ≤ l.expires_at
-  pub active : (axis : ℕ) (a : Active) → get_or os axis none ≡ some a → soonest ≤ a.expires_at
+  pub leases : (axis : ℕ) (l : Lease) → get_or ls axis None ≡ Some l → soonest ≤ l.expires_at
+  pub active : (axis : ℕ) (a : Active) → get_or os axis None ≡ Some a → soonest ≤ a.expires_at
 
 -- axes of the fallback in hand
 pub record InBounds (f : Falling) : Type 0 where
@@ -348,7 +348,7 @@ carries Awaited.Record = false
 -- the order in hand is on an axis, and has its lease while the driver carries it out
 pub record Carried (w : Awaited) (o : Order) (leases : List (Option Lease)) : Type 0 where
   pub axis : o.capability.resource < 8
-  pub leased : carries w ≡ true → is_some (get_or leases o.capability.resource none) ≡ true
+  pub leased : carries w ≡ true → is_some (get_or leases o.capability.resource None) ≡ true
 
 -- the one condition on a state: what a start sets up and every call and reply keeps
 pub record Sound (s : State) : Type 0 where

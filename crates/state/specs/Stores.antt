@@ -1,6 +1,6 @@
 -- What a decision says is to be stored, and the state with it stored. A decision promises for any tables that hold what it was shown.
 use Rattle.std.specs.Prelude.{ℕ, ◌-◌, Bool, true, false, cond, ◌≡◌, eqb, get_or, set}
-use Rattle.std.proofs.Math.Option.{Option, some, none}
+use Rattle.std.specs.Prelude.{Option, Some, None}
 use Rattle.model.specs.declared.Lease.{Lease}
 use Rattle.model.specs.declared.Reason.{Reason}
 use Rattle.model.specs.declared.Receipt.{Receipt}
@@ -60,8 +60,8 @@ numbers_after c held soonest n =
 
 -- how many leases stand without this one
 unfoldable pub without : Option Lease → ℕ → ℕ
-without none held = held
-without (some l) held = held - 1
+without None held = held
+without (Some l) held = held - 1
 
 -- where no lease stands nothing ends: an active order has a lease
 unfoldable pub soonest_with : ℕ → ℕ → ℕ
@@ -74,8 +74,8 @@ abbrev pub cleared_at : ℕ → Tables → Tables
 cleared_at axis t =
     record {
       capabilities = t.capabilities;
-      leases = set t.leases axis none;
-      active = set t.active axis none;
+      leases = set t.leases axis None;
+      active = set t.active axis None;
       replay = t.replay;
       receipts = t.receipts;
     }
@@ -96,7 +96,7 @@ falling_with c l w h =
 -- the axis of the fallback cleared, and its reply awaited
 unfoldable pub fallen : Course → State → State
 fallen c s =
-    let l = get_or s.tables.leases c.falling.axis none in
+    let l = get_or s.tables.leases c.falling.axis None in
     let held = without l s.numbers.held in
     state s.fixed (numbers_after c held (soonest_with held s.numbers.soonest) s.numbers) (cleared_at c.falling.axis s.tables) s.asked
     (falling_with c l (awaiting Awaited.Fallback) s.hand)
@@ -105,7 +105,7 @@ fallen c s =
 unfoldable pub ended : Course → State → State
 ended c s =
     state s.fixed (numbers_after c s.numbers.held (soonest_with s.numbers.held s.numbers.soonest) s.numbers) s.tables s.asked
-    (falling_with c none (awaiting Awaited.Nothing) s.hand)
+    (falling_with c None (awaiting Awaited.Nothing) s.hand)
 
 -- a course taken
 unfoldable pub followed_by : Way → Course → State → State

@@ -5,7 +5,7 @@
 #![tactic(auto)]
 
 ghost use Rattle.std.specs.Prelude.{◌≤◌, ◌<◌, min, true, cond, ◌≡◌, eqb};
-ghost use Rattle.std.proofs.Math.Option.{Option};
+ghost use Rattle.std.specs.Prelude.{Option};
 ghost use Rattle.model.specs.Reasons.{number};
 ghost use Rattle.model.specs.declared.Capability.{Capability};
 ghost use Rattle.model.specs.declared.Reason.TheVariants.{Estop};

@@ -16,11 +16,11 @@ use Rattle.host_records.specs.Records.{opening}
 use Rattle.host_start.proofs.Zeros.{Blank, blank, sound-blank}
 
 module _ (w : List ℕ) (z : (j : ℕ) → get_or w j 0 ≡ 0) where
-  none : Blank (runtime_in w)
-  none = blank w (λ j h k. z j)
+  all_zero : Blank (runtime_in w)
+  all_zero = blank w (λ j h k. z j)
 
   pub zeros-sound : RuntimeSound (runtime_in w)
-  zeros-sound = sound-blank none
+  zeros-sound = sound-blank all_zero
 
   none-listed : Listing (listing_in w) []
   unfolding listing_in below
@@ -33,7 +33,7 @@ module _ (w : List ℕ) (z : (j : ℕ) → get_or w j 0 ≡ 0) where
 
   pub zeros-stand : Stands w opening
   unfolding phase_at_stage opening
-  zeros-stand = record { listing = none-listed; phase = ap (λ (s : Stage). phase_at_stage s (runtime_in w)) none.stage }
+  zeros-stand = record { listing = none-listed; phase = ap (λ (s : Stage). phase_at_stage s (runtime_in w)) all_zero.stage }
 
 -- as many zeros as there are
 pub zero-at : (n j : ℕ) → get_or {A = ℕ} (replicate n 0) j 0 ≡ 0

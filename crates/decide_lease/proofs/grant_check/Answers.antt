@@ -1,7 +1,7 @@
 use Prim.Native.Nat.{ℕ}
 use borrow.Author.Tests.{eq-eqb, ne_eqb}
 use mathlib.Core.Bool.{Bool, true, not}
-use mathlib.Core.Option.{Option, some, none}
+use Rattle.std.specs.Prelude.{Option, Some, None}
 use mathlib.Core.Path.{◌≡◌, sym, ap, ◌∙◌}
 use lib.ListN.{get_or}
 use lib.Bits.{bit_and}
@@ -22,11 +22,11 @@ permitted bits shown e = rw (← shown.allowed) (eq-eqb _ _ e)
 -- what the slot says of the axis
 free-if : (o : Option Lease) (l : Bool) → l ≡ is_some o → is_free o ≡ not l
 unfolding is_free is_some
-free-if none l e = rw e
-free-if (some x) l e = rw e
+free-if None l e = rw e
+free-if (Some x) l e = rw e
 
 slot-free : {axis mask : ℕ} {slot : LeaseSlot} {t : Tables} (l : Bool) → ShowsAxis axis mask slot t → l ≡ is_some (lease_in slot)
-    → is_free (get_or t.leases axis none) ≡ not l
+    → is_free (get_or t.leases axis None) ≡ not l
 slot-free l shown e = free-if _ l (e ∙ ap is_some shown.shown)
 
 pub returns-then-allowed-request : goal.returns-then-allowed-request

@@ -1,5 +1,5 @@
 use Prim.Native.Nat.{min}
-use mathlib.Core.Option.{some}
+use Rattle.std.specs.Prelude.{Some}
 use native.Mathlib.Omega.{arith}
 use mathlib.Core.Path.{ap, ◌∙◌}
 use Rattle.rules.specs.Receipts.{event}
@@ -14,7 +14,7 @@ pub returns : goal.returns
 unfolding new_lease event book_of
 returns c =
     let a = c.args in
-    grants a.fixed a.numbers a.request a.now _ (ap some c.new_lease-lease.ensures) c.bump_counter.ensures
+    grants a.fixed a.numbers a.request a.now _ (ap Some c.new_lease-lease.ensures) c.bump_counter.ensures
     c.bump_counter-2.ensures
     c.refreshed.ensures
     (λ few. elim c.if-held-lt255.branch [ then-held-lt255 w ↦ w.result-is | else-held-lt255 w ↦ absurd (omega arith) ])

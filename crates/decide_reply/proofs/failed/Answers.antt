@@ -1,4 +1,4 @@
-use mathlib.Core.Option.{some}
+use Rattle.std.specs.Prelude.{Some}
 use mathlib.Core.Path.{refl}
 use Rattle.rules.specs.Receipts.{axis_or255}
 use Rattle.decide_reply.proofs.Receipts.{fails}
@@ -9,4 +9,4 @@ unfolding axis_or255
 returns c =
     λ t q h s e.
     let a = c.args in
-    fails a.fixed a.numbers t q h s a.capability a.reason _ a.submission e (c.order_receipt.ensures t (some a.capability) refl)
+    fails a.fixed a.numbers t q h s a.capability a.reason _ a.submission e (c.order_receipt.ensures t (Some a.capability) refl)

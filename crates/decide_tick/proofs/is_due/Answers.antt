@@ -1,12 +1,12 @@
 use mathlib.Core.Bool.{Bool, true, false, cond}
-use mathlib.Core.Option.{some, none}
+use Rattle.std.specs.Prelude.{Some, None}
 use mathlib.Core.Path.{◌≡◌, refl, sym, ◌∙◌}
 use Rattle.model.specs.declared.Reason.{Reason}
 use Rattle.rules.specs.Admission.{is_some}
 use Rattle.rules.specs.Rules.{due}
 use Rattle.decide_tick.proofs.is_due.Goals as goal
 
-some-if : (o : Bool) (r : Reason) → o ≡ is_some (cond o (some r) none)
+some-if : (o : Bool) (r : Reason) → o ≡ is_some (cond o (Some r) None)
 unfolding is_some
 some-if true r = refl
 some-if false r = refl
