@@ -13,7 +13,8 @@ use Rattle.format.specs.declared.RecordKind.TheVariants as Kind
 use Rattle.format.specs.declared.TurnKind.TheVariants as Turn
 use Rattle.format.specs.declared.ReadingKind.TheVariants as Ask
 use Rattle.format.specs.Kinds.{kinds, lookup, kind_at, turn_limits, reading_limits, limits_of, within}
-use Rattle.format.specs.Decode.{word, capability_of, config_of, request_of, renewal_of, action_of, submission_of, observation_of, observed_of, Record, Lists, Starts, Feeds, Malformed, turn_of, reading_of, record_of, checked_kind, decode}
+use Rattle.std.specs.Prelude.{Some}
+use Rattle.format.specs.Decode.{checked, word, capability_of, config_of, request_of, renewal_of, action_of, submission_of, observation_of, observed_of, Record, Lists, Starts, Feeds, Malformed, turn_of, reading_of, record_of, checked_kind, decode}
 use Rattle.format.specs.Encode.{capability_words, config_words}
 use Rattle.format.specs.Inputs.{padded_to16, request_words, renewal_words, action_words, call_words, reply_words, reading_words, input_words, RangedCapability, RangedCall, RangedReply, RangedReading, Ranged}
 use Rattle.format.proofs.FieldLaws.{kept, bit_in, bit-back, parts_in, parts-back, bounds-in, bounds-back, class-in, class_back, verification-in, verification-back}
@@ -31,8 +32,8 @@ each_within [] ls h = refl
 each_within (w ∷ ws) [] h = refl
 each_within (w ∷ ws) (l ∷ ls) h = rw (le-leb w l h.0) (each_within ws ls h.1)
 
-decoded : (k : RecordKind) (ws : List ℕ) {r : Record} → kind_at (word ws 0) ≡ k → Each ws (limits_of k) → record_of k ws ≡ r → decode ws ≡ r
-unfolding decode checked_kind
+decoded : (k : RecordKind) (ws : List ℕ) {r : Record} → kind_at (word ws 0) ≡ Some k → Each ws (limits_of k) → record_of (Some k) ws ≡ r → decode ws ≡ r
+unfolding decode checked_kind checked
 decoded k ws e h t = rw (e, each_within ws (limits_of k) h) t
 
 -- records ----------------------------------------------------------------------------------------------------------------
@@ -81,6 +82,10 @@ reading-has (ReadLease axis) p = decoded (Kind.Reading Ask.Lease) _ refl (omega 
 reading-has (ReadCapability index) p = decoded (Kind.Reading Ask.CapabilityAt) _ refl (omega arith) refl
 reading-has (ReadReceipt index) p = decoded (Kind.Reading Ask.ReceiptAt) _ refl (omega arith) refl
 
+malformed : decode (padded_to16 0 []) ≡ Malformed
+unfolding decode checked_kind kind_at lookup kinds record_of padded_to16
+malformed = refl
+
 pub has-a-record : (r : Record) → Ranged r → decode (input_words r) ≡ r
 unfolding input_words padded_to16 capability_words config_words kind_at lookup kinds limits_of record_of config_of
 has-a-record (Lists c) p =
@@ -92,4 +97,4 @@ has-a-record (Starts config boot_id now flags) p =
 has-a-record (Feeds (Calls c)) p = call-has c p
 has-a-record (Feeds (Replies r)) p = reply-has r p
 has-a-record (Feeds (Reads q)) p = reading-has q p
-has-a-record Malformed p = decoded Kind.Unknown _ refl (omega arith) refl
+has-a-record Malformed p = malformed

@@ -1,7 +1,6 @@
 -- What the 16 words of an input record stand for (docs/WIRE.md, "Input records"). A narrow field takes the low bits of its word; `within` has
 -- made sure that there are no others.
-use Rattle.std.specs.Prelude.{ℕ, ◌%◌, Bool, cond, List, [], ◌∷◌, eqb, ℤ, get_or}
-use Rattle.std.specs.Prelude.{Option, Some, None}
+use Rattle.std.specs.Prelude.{ℕ, ◌%◌, Bool, cond, List, [], ◌∷◌, eqb, ℤ, get_or, Option, Some, None, option_and_then}
 use Rattle.model.specs.declared.Action.{Action}
 use Rattle.model.specs.declared.Bounds.{Bounds}
 use Rattle.model.specs.declared.Capability.{Capability}
@@ -167,16 +166,19 @@ reading_of Ask.Lease ws = ReadLease (u8_at ws 1)
 reading_of Ask.CapabilityAt ws = ReadCapability (word ws 1)
 reading_of Ask.ReceiptAt ws = ReadReceipt (word ws 1)
 
-unfoldable pub record_of : RecordKind → List ℕ → Record
-record_of Kind.Capability ws = Lists (capability_of ws)
-record_of Kind.Start ws = Starts (config_of ws) (word ws 1) (word ws 2) (u32_at ws 3)
-record_of (Kind.Turn t) ws = Feeds (turn_of t ws)
-record_of (Kind.Reading q) ws = Feeds (Reads (reading_of q ws))
-record_of Kind.Unknown ws = Malformed
+unfoldable pub record_of : Option RecordKind → List ℕ → Record
+record_of (Some Kind.Capability) ws = Lists (capability_of ws)
+record_of (Some Kind.Start) ws = Starts (config_of ws) (word ws 1) (word ws 2) (u32_at ws 3)
+record_of (Some (Kind.Turn t)) ws = Feeds (turn_of t ws)
+record_of (Some (Kind.Reading q)) ws = Feeds (Reads (reading_of q ws))
+record_of None ws = Malformed
 
 -- the kind, unless a word is above what its field can hold
-unfoldable pub checked_kind : List ℕ → RecordKind
-checked_kind ws = cond (within ws (limits_of (kind_at (word ws 0)))) (kind_at (word ws 0)) Kind.Unknown
+unfoldable pub checked : List ℕ → RecordKind → Option RecordKind
+checked ws k = cond (within ws (limits_of k)) (Some k) None
+
+unfoldable pub checked_kind : List ℕ → Option RecordKind
+checked_kind ws = option_and_then (checked ws) (kind_at (word ws 0))
 
 unfoldable pub decode : List ℕ → Record
 decode ws = record_of (checked_kind ws) ws

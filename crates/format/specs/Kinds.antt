@@ -1,5 +1,5 @@
 -- The kinds of input records, their numbers, and the most that each word may be (docs/WIRE.md, "Input records").
-use Rattle.std.specs.Prelude.{ℕ, Bool, true, cond, ◌&&◌, List, [], ◌∷◌, ◌++◌, eqb, leb, replicate}
+use Rattle.std.specs.Prelude.{ℕ, Bool, true, cond, ◌&&◌, List, [], ◌∷◌, ◌++◌, eqb, leb, replicate, Option, Some, None}
 use Rattle.format.specs.declared.RecordKind.{RecordKind}
 use Rattle.format.specs.declared.RecordKind.TheVariants as Kind
 use Rattle.format.specs.declared.TurnKind.{TurnKind}
@@ -36,12 +36,12 @@ kinds =
     ∷ (57, Kind.Reading Reading.ReceiptAt)
     ∷ []
 
-unfoldable pub lookup : List (ℕ × RecordKind) → ℕ → RecordKind
-lookup [] n = Kind.Unknown
-lookup (k ∷ ks) n = cond (eqb n k.0) k.1 (lookup ks n)
+unfoldable pub lookup : List (ℕ × RecordKind) → ℕ → Option RecordKind
+lookup [] n = None
+lookup (k ∷ ks) n = cond (eqb n k.0) (Some k.1) (lookup ks n)
 
 -- the kind of a record by its word 0
-unfoldable pub kind_at : ℕ → RecordKind
+unfoldable pub kind_at : ℕ → Option RecordKind
 kind_at n = lookup kinds n
 
 -- the most that a word may be, by what it holds
@@ -97,7 +97,6 @@ limits_of Kind.Capability = filled (u16 ∷ u8 ∷ 2 ∷ u8 ∷ u32 ∷ u32 ∷ 
 limits_of Kind.Start = filled (u64 ∷ u64 ∷ u32 ∷ u32 ∷ u32 ∷ u32 ∷ u32 ∷ u16 ∷ u32 ∷ []) 6
 limits_of (Kind.Turn t) = turn_limits t
 limits_of (Kind.Reading q) = reading_limits q
-limits_of Kind.Unknown = filled [] 15
 
 -- no word is above what it may be
 unfoldable pub within : List ℕ → List ℕ → Bool

@@ -3,7 +3,7 @@
 // no known kind. Rests on `model` for the records, and on `rules` for what goes in and comes out.
 #![tactic(auto)]
 
-ghost use Rattle.std.specs.Prelude.{[], ◌≡◌, ◌%◌, eqb};
+ghost use Rattle.std.specs.Prelude.{[], ◌∷◌, ◌≡◌, ◌%◌, eqb};
 ghost use Rattle.model.specs.Decisions.{decision_number};
 ghost use Rattle.model.specs.Reasons.{number as reason_number};
 ghost use Rattle.words.specs.Signs.{signed as signed_of, unsigned as unsigned_of};
@@ -57,39 +57,39 @@ pub enum RecordKind {
     Start,
     Turn(TurnKind),
     Reading(ReadingKind),
-    Unknown,
 }
 
-fn kind_at(word: u64) -> RecordKind
+#[tactic(auto, unfolding(crate::specs::Kinds::kind_at, crate::specs::Kinds::lookup, crate::specs::Kinds::kinds))]
+fn kind_at(word: u64) -> Option<RecordKind>
     ensures { result ≡ kind_at word }
 {
     match word {
-        1 => RecordKind::Capability,
-        2 => RecordKind::Start,
-        16 => RecordKind::Turn(TurnKind::Tick),
-        17 => RecordKind::Turn(TurnKind::UpdateState),
-        18 => RecordKind::Turn(TurnKind::EmergencyStop),
-        19 => RecordKind::Turn(TurnKind::PollEstop),
-        20 => RecordKind::Turn(TurnKind::RecoverLocal),
-        21 => RecordKind::Turn(TurnKind::Acquire),
-        22 => RecordKind::Turn(TurnKind::Renew),
-        23 => RecordKind::Turn(TurnKind::Cancel),
-        24 => RecordKind::Turn(TurnKind::Submit),
-        32 => RecordKind::Turn(TurnKind::Observed),
-        33 => RecordKind::Turn(TurnKind::Executed),
-        34 => RecordKind::Turn(TurnKind::FellBack),
-        35 => RecordKind::Turn(TurnKind::Recorded),
-        48 => RecordKind::Reading(ReadingKind::State),
-        49 => RecordKind::Reading(ReadingKind::Epoch),
-        50 => RecordKind::Reading(ReadingKind::BootId),
-        51 => RecordKind::Reading(ReadingKind::Flags),
-        52 => RecordKind::Reading(ReadingKind::ReceiptCount),
-        53 => RecordKind::Reading(ReadingKind::Config),
-        54 => RecordKind::Reading(ReadingKind::Snapshot),
-        55 => RecordKind::Reading(ReadingKind::Lease),
-        56 => RecordKind::Reading(ReadingKind::CapabilityAt),
-        57 => RecordKind::Reading(ReadingKind::ReceiptAt),
-        _ => RecordKind::Unknown,
+        1 => Some(RecordKind::Capability),
+        2 => Some(RecordKind::Start),
+        16 => Some(RecordKind::Turn(TurnKind::Tick)),
+        17 => Some(RecordKind::Turn(TurnKind::UpdateState)),
+        18 => Some(RecordKind::Turn(TurnKind::EmergencyStop)),
+        19 => Some(RecordKind::Turn(TurnKind::PollEstop)),
+        20 => Some(RecordKind::Turn(TurnKind::RecoverLocal)),
+        21 => Some(RecordKind::Turn(TurnKind::Acquire)),
+        22 => Some(RecordKind::Turn(TurnKind::Renew)),
+        23 => Some(RecordKind::Turn(TurnKind::Cancel)),
+        24 => Some(RecordKind::Turn(TurnKind::Submit)),
+        32 => Some(RecordKind::Turn(TurnKind::Observed)),
+        33 => Some(RecordKind::Turn(TurnKind::Executed)),
+        34 => Some(RecordKind::Turn(TurnKind::FellBack)),
+        35 => Some(RecordKind::Turn(TurnKind::Recorded)),
+        48 => Some(RecordKind::Reading(ReadingKind::State)),
+        49 => Some(RecordKind::Reading(ReadingKind::Epoch)),
+        50 => Some(RecordKind::Reading(ReadingKind::BootId)),
+        51 => Some(RecordKind::Reading(ReadingKind::Flags)),
+        52 => Some(RecordKind::Reading(ReadingKind::ReceiptCount)),
+        53 => Some(RecordKind::Reading(ReadingKind::Config)),
+        54 => Some(RecordKind::Reading(ReadingKind::Snapshot)),
+        55 => Some(RecordKind::Reading(ReadingKind::Lease)),
+        56 => Some(RecordKind::Reading(ReadingKind::CapabilityAt)),
+        57 => Some(RecordKind::Reading(ReadingKind::ReceiptAt)),
+        _ => None,
     }
 }
 
@@ -104,6 +104,7 @@ const U8: u64 = 0xff;
 
 const BOOL: u64 = 1;
 
+#[tactic(auto, unfolding(crate::specs::Kinds::turn_limits))]
 fn turn_limits(kind: TurnKind) -> [u64; 16]
     ensures { result ≡ turn_limits kind }
 {
@@ -128,6 +129,7 @@ fn turn_limits(kind: TurnKind) -> [u64; 16]
     }
 }
 
+#[tactic(auto, unfolding(crate::specs::Kinds::reading_limits))]
 fn reading_limits(kind: ReadingKind) -> [u64; 16]
     ensures { result ≡ reading_limits kind }
 {
@@ -145,6 +147,7 @@ fn reading_limits(kind: ReadingKind) -> [u64; 16]
     }
 }
 
+#[tactic(auto, unfolding(crate::specs::Kinds::limits_of))]
 fn limits(kind: RecordKind) -> [u64; 16]
     ensures { result ≡ limits_of kind }
 {
@@ -157,37 +160,30 @@ fn limits(kind: RecordKind) -> [u64; 16]
         ],
         RecordKind::Turn(turn) => turn_limits(turn),
         RecordKind::Reading(reading) => reading_limits(reading),
-        RecordKind::Unknown => [U64, 0, 0, 0, 0, 0, 0, 0, 0, 0, 0, 0, 0, 0, 0, 0],
     }
 }
 
 fn within(words: [u64; 16], limits: [u64; 16]) -> bool
     ensures { result ≡ is_within words limits }
 {
-    let mut i = 0;
-    while i < 16 {
-        if words[i] > limits[i] {
-            return false;
-        }
-        i += 1;
-    }
-    true
+    words
+        .iter()
+        .zip(limits.iter())
+        .all(|(word, limit)| word <= limit)
 }
 
 // The kind of a record, unless a word is above what its field can hold.
-pub fn kind_of(words: [u64; 16]) -> RecordKind
+#[tactic(auto, unfolding(crate::specs::Decode::checked_kind, crate::specs::Decode::checked))]
+pub fn kind_of(words: [u64; 16]) -> Option<RecordKind>
     ensures { result ≡ checked_kind words }
 {
-    let kind = kind_at(words[0]);
-    let limits = limits(kind);
-    if within(words, limits) {
-        return kind;
-    }
-    RecordKind::Unknown
+    let kind = kind_at(words[0])?;
+    within(words, limits(kind)).then_some(kind)
 }
 
 // Fields ---------------------------------------------------------------------------------------------------------------
 
+// The low bits of a word: a cast may lose none, so they are taken first.
 pub fn as_u32(word: u64) -> u32
     ensures { result ≡ word % 4294967296 }
 {
@@ -218,42 +214,36 @@ fn as_i32(word: u64) -> i32
     signed(as_u32(word))
 }
 
-fn wide(value: u32) -> u64
-    ensures { result ≡ value }
-{
-    value as u64
-}
-
+#[tactic(auto, unfolding(crate::specs::Encode::bit))]
 pub fn bit(value: bool) -> u64
     ensures { result ≡ bit_of value }
 {
-    if value { 1 } else { 0 }
+    u64::from(value)
 }
 
+#[tactic(auto, unfolding(crate::specs::Decode::class_of))]
 fn class_of(word: u64) -> ExecutionClass
     ensures { result ≡ class_of word }
 {
-    if word == 0 {
-        return ExecutionClass::Stream;
+    match word {
+        0 => ExecutionClass::Stream,
+        1 => ExecutionClass::Discrete,
+        _ => ExecutionClass::Control,
     }
-    if word == 1 {
-        return ExecutionClass::Discrete;
-    }
-    ExecutionClass::Control
 }
 
+#[tactic(auto, unfolding(crate::specs::Decode::verification_of))]
 fn verification_of(state: bool, mask: u32, value: u32) -> Verification
     ensures { result ≡ verification_of state mask value }
 {
     if state {
-        return Verification::State {
-            mask: mask,
-            value: value,
-        };
+        Verification::State { mask, value }
+    } else {
+        Verification::Parameters
     }
-    Verification::Parameters
 }
 
+#[tactic(auto, unfolding(crate::specs::Decode::bounds_of))]
 pub fn bounds_of(min: u64, max: u64) -> Bounds
     ensures { result ≡ bounds_of min max }
 {
@@ -265,6 +255,7 @@ pub fn bounds_of(min: u64, max: u64) -> Bounds
 
 // Input records --------------------------------------------------------------------------------------------------------
 
+#[tactic(auto, unfolding(crate::specs::Decode::capability_of))]
 pub fn capability_of(words: [u64; 16]) -> Capability
     ensures { result ≡ capability_of words }
 {
@@ -282,6 +273,7 @@ pub fn capability_of(words: [u64; 16]) -> Capability
     }
 }
 
+#[tactic(auto, unfolding(crate::specs::Decode::config_of))]
 pub fn config_of(words: [u64; 16]) -> Config
     ensures { result ≡ config_of words }
 {
@@ -295,6 +287,7 @@ pub fn config_of(words: [u64; 16]) -> Config
     }
 }
 
+#[tactic(auto, unfolding(crate::specs::Decode::request_of))]
 pub fn request_of(words: [u64; 16]) -> LeaseRequest
     ensures { result ≡ request_of words }
 {
@@ -309,6 +302,7 @@ pub fn request_of(words: [u64; 16]) -> LeaseRequest
     }
 }
 
+#[tactic(auto, unfolding(crate::specs::Decode::renewal_of))]
 pub fn renewal_of(words: [u64; 16]) -> Renewal
     ensures { result ≡ renewal_of words }
 {
@@ -321,6 +315,7 @@ pub fn renewal_of(words: [u64; 16]) -> Renewal
     }
 }
 
+#[tactic(auto, unfolding(crate::specs::Decode::action_of))]
 fn action_of(words: [u64; 16]) -> Action
     ensures { result ≡ action_of words }
 {
@@ -339,6 +334,7 @@ fn action_of(words: [u64; 16]) -> Action
     }
 }
 
+#[tactic(auto, unfolding(crate::specs::Decode::submission_of))]
 pub fn submission_of(words: [u64; 16]) -> Submission
     ensures { result ≡ submission_of words }
 {
@@ -351,6 +347,7 @@ pub fn submission_of(words: [u64; 16]) -> Submission
     }
 }
 
+#[tactic(auto, unfolding(crate::specs::Decode::observation_of))]
 pub fn observation_of(words: [u64; 16]) -> Observation
     ensures { result ≡ observation_of words }
 {
@@ -362,67 +359,45 @@ pub fn observation_of(words: [u64; 16]) -> Observation
 
 // Output records -------------------------------------------------------------------------------------------------------
 
+#[tactic(auto, unfolding(crate::specs::Encode::class_number))]
 pub fn class_number(class: ExecutionClass) -> u64
     ensures { result ≡ class_number class }
 {
-    match class {
-        ExecutionClass::Stream => 0,
-        ExecutionClass::Discrete => 1,
-        ExecutionClass::Control => 2,
-    }
+    class as u64
 }
 
 pub fn decision_number(decision: Decision) -> u64
     ensures { result ≡ decision_number decision }
 {
-    decision.number() as u64
+    u64::from(u8::from(decision))
 }
 
+#[tactic(auto, unfolding(crate::specs::Encode::state_number))]
 pub fn state_number(state: RuntimeState) -> u64
     ensures { result ≡ state_number state }
 {
-    match state {
-        RuntimeState::SafeIdle => 0,
-        RuntimeState::Armed => 1,
-        RuntimeState::Faulted => 2,
-        RuntimeState::Estopped => 3,
-    }
+    state as u64
 }
 
 pub fn reason_number(reason: Reason) -> u64
     ensures { result ≡ reason_number reason }
 {
-    reason.number() as u64
+    u64::from(u16::from(reason))
 }
 
-pub fn verification_word(verification: Verification) -> u64
-    ensures { result ≡ verification_word verification }
+// Which it is, its mask and its value.
+#[tactic(auto, unfolding(crate::specs::Encode::verification_word, crate::specs::Encode::mask_word, crate::specs::Encode::value_word))]
+pub fn verification_words(verification: Verification) -> [u64; 3]
+    ensures { result ≡ verification_word verification ∷ mask_word verification ∷ value_word verification ∷ [] }
 {
     match verification {
-        Verification::Parameters => 0,
-        Verification::State { mask: _, value: _ } => 1,
-    }
-}
-
-pub fn mask_word(verification: Verification) -> u64
-    ensures { result ≡ mask_word verification }
-{
-    match verification {
-        Verification::Parameters => 0,
-        Verification::State { mask, value: _ } => mask as u64,
-    }
-}
-
-pub fn value_word(verification: Verification) -> u64
-    ensures { result ≡ value_word verification }
-{
-    match verification {
-        Verification::Parameters => 0,
-        Verification::State { mask: _, value } => value as u64,
+        Verification::Parameters => [0, 0, 0],
+        Verification::State { mask, value } => [1, u64::from(mask), u64::from(value)],
     }
 }
 
 // A kind and a number alone.
+#[tactic(auto, unfolding(crate::specs::Encode::padded))]
 pub fn plain_words(kind: u64, number: u64) -> [u64; 26]
     ensures { result ≡ padded kind number [] }
 {
@@ -432,6 +407,7 @@ pub fn plain_words(kind: u64, number: u64) -> [u64; 26]
 }
 
 // Items: 0, or the number that they come again with.
+#[tactic(auto, unfolding(crate::specs::Encode::padded, crate::specs::Encode::item_words))]
 pub fn observe_words(number: u64, axis: u8) -> [u64; 26]
     ensures { result ≡ item_words number (ItemObserve axis) }
 {
@@ -440,6 +416,7 @@ pub fn observe_words(number: u64, axis: u8) -> [u64; 26]
     words
 }
 
+#[tactic(auto, unfolding(crate::specs::Encode::padded, crate::specs::Encode::item_words))]
 pub fn execute_words(number: u64, capability: u16, parameters: [i32; 2]) -> [u64; 26]
     ensures { result ≡ item_words number (ItemExecute capability parameters) }
 {
@@ -450,6 +427,7 @@ pub fn execute_words(number: u64, capability: u16, parameters: [i32; 2]) -> [u64
     words
 }
 
+#[tactic(auto, unfolding(crate::specs::Encode::padded, crate::specs::Encode::item_words))]
 pub fn fallback_words(number: u64, axis: u8, reason: Reason) -> [u64; 26]
     ensures { result ≡ item_words number (ItemFallback axis reason) }
 {
@@ -460,6 +438,7 @@ pub fn fallback_words(number: u64, axis: u8, reason: Reason) -> [u64; 26]
 }
 
 // Records, after a kind and a number.
+#[tactic(auto, unfolding(crate::specs::Encode::padded, crate::specs::Encode::receipt_words))]
 pub fn receipt_words(kind: u64, number: u64, receipt: Receipt) -> [u64; 26]
     ensures { result ≡ padded kind number (receipt_words receipt) }
 {
@@ -489,14 +468,15 @@ pub fn receipt_words(kind: u64, number: u64, receipt: Receipt) -> [u64; 26]
         unsigned(requested[1]),
         unsigned(observed[0]),
         unsigned(observed[1]),
-        wide(receipt.pre_state),
-        wide(receipt.post_state),
+        u64::from(receipt.pre_state),
+        u64::from(receipt.post_state),
         receipt.original_receipt,
         bit(receipt.dispatched),
         bit(receipt.observed_valid),
     ]
 }
 
+#[tactic(auto, unfolding(crate::specs::Encode::padded, crate::specs::Encode::lease_words))]
 pub fn lease_words(kind: u64, number: u64, lease: Lease) -> [u64; 26]
     ensures { result ≡ padded kind number (lease_words lease) }
 {
@@ -518,11 +498,12 @@ pub fn lease_words(kind: u64, number: u64, lease: Lease) -> [u64; 26]
     words
 }
 
+#[tactic(auto, unfolding(crate::specs::Encode::padded, crate::specs::Encode::capability_words))]
 pub fn capability_words(kind: u64, number: u64, capability: Capability) -> [u64; 26]
     ensures { result ≡ padded kind number (capability_words capability) }
 {
     let class = capability.class;
-    let verification = capability.verification;
+    let [which, mask, value] = verification_words(capability.verification);
     let bounds = capability.bounds;
     let first = bounds[0];
     let second = bounds[1];
@@ -537,12 +518,13 @@ pub fn capability_words(kind: u64, number: u64, capability: Capability) -> [u64;
     words[9] = unsigned(second.max);
     words[10] = capability.require_set as u64;
     words[11] = capability.require_clear as u64;
-    words[12] = verification_word(verification);
-    words[13] = mask_word(verification);
-    words[14] = value_word(verification);
+    words[12] = which;
+    words[13] = mask;
+    words[14] = value;
     words
 }
 
+#[tactic(auto, unfolding(crate::specs::Encode::padded, crate::specs::Encode::config_words))]
 pub fn config_words(kind: u64, number: u64, config: Config) -> [u64; 26]
     ensures { result ≡ padded kind number (config_words config) }
 {
@@ -556,6 +538,7 @@ pub fn config_words(kind: u64, number: u64, config: Config) -> [u64; 26]
     words
 }
 
+#[tactic(auto, unfolding(crate::specs::Encode::padded, crate::specs::Encode::snapshot_words))]
 pub fn snapshot_words(kind: u64, number: u64, snapshot: Snapshot) -> [u64; 26]
     ensures { result ≡ padded kind number (snapshot_words snapshot) }
 {

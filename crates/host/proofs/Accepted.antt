@@ -8,6 +8,7 @@ use borrow.Author.Tests.{eq-eqb}
 use lib.Dec.{eqb}
 use lib.ListN.{length, get_or, replicate}
 use lib.Seq.{get_or-append-add}
+use Rattle.std.specs.Prelude.{Option, Some, None, is_some}
 use Rattle.model.specs.declared.Capability.{Capability}
 use Rattle.model.specs.declared.Config.{Config}
 use Rattle.model.specs.declared.LeaseRequest.{LeaseRequest}
@@ -23,7 +24,7 @@ use Rattle.format.specs.declared.RecordKind.{RecordKind}
 use Rattle.format.specs.declared.RecordKind.TheVariants as Kind
 use Rattle.format.proofs.Inputs.{capability-words-back, has-a-record}
 use Rattle.decide_start.specs.Starts.{start_on}
-use Rattle.host.specs.Host.{record_with, asked, capability_with, capabilities_in, is_known, are_read, are_asked, start_in}
+use Rattle.host.specs.Host.{record_with, asked, capability_with, capabilities_in, are_read, are_asked, start_in}
 use Rattle.host.specs.Accepted.{fields_of, list_words, AllRanged}
 use Rattle.host.proofs.Lent.{known}
 
@@ -47,16 +48,13 @@ is_read (Starts config boot_id now flags) = true
 is_read (Feeds i) = true
 is_read Malformed = false
 
-read_known : (ws : List ℕ) {r : Record} → decode ws ≡ r → is_read r ≡ true → is_known (checked_kind ws) ≡ true
+read_known : (ws : List ℕ) {r : Record} → decode ws ≡ r → is_read r ≡ true → is_some (checked_kind ws) ≡ true
 unfolding decode record_of
 read_known ws e y = by_kind (checked_kind ws) (ap is_read e ∙ y)
   where
-    by_kind : (k : RecordKind) → is_read (record_of k ws) ≡ true → is_known k ≡ true
-    by_kind Kind.Capability h = refl
-    by_kind Kind.Start h = refl
-    by_kind (Kind.Turn t) h = refl
-    by_kind (Kind.Reading q) h = refl
-    by_kind Kind.Unknown h = h
+    by_kind : (k : Option RecordKind) → is_read (record_of k ws) ≡ true → is_some k ≡ true
+    by_kind (Some k) h = refl
+    by_kind None h = h
 
 -- a start's own words ----------------------------------------------------------------------------------------------------
 
@@ -68,7 +66,7 @@ module _ (config : Config) (boot time flags : ℕ) (p : Ranged (Starts config bo
   unfolding part input_words padded_to16 config_words
   start-decoded = has-a-record (Starts config boot time flags) p
 
-  start-known : is_known (checked_kind start-words) ≡ true
+  start-known : is_some (checked_kind start-words) ≡ true
   start-known = read_known start-words start-decoded refl
 
   abbrev start_or : Start → List Capability → Record → Start
@@ -77,9 +75,9 @@ module _ (config : Config) (boot time flags : ℕ) (p : Ranged (Starts config bo
   start_or d l (Feeds i) = d
   start_or d l Malformed = d
 
-  start_is : record_of Kind.Start start-words ≡ Starts config boot time flags
+  start_is : record_of (Some Kind.Start) start-words ≡ Starts config boot time flags
   unfolding decode kind_at lookup kinds
-  start_is = ap (λ (k : RecordKind). record_of k start-words) (sym (known start-words start-known)) ∙ start-decoded
+  start_is = ap (λ (k : Option RecordKind). record_of k start-words) (sym (known start-words start-known)) ∙ start-decoded
 
   start_back : (l : List Capability)
       → start_on (config_of start-words) l (word start-words 1) (word start-words 2) (u32_at start-words 3) ≡ start_on config l boot time flags
@@ -97,7 +95,7 @@ module _ (c : Capability) (p : RangedCapability c) (f : List ℕ) where
   unfolding part input_words padded_to16 capability_words
   first_back = capability-words-back 1 (0 ∷ 0 ∷ []) c p
 
-  first-known : is_known (checked_kind (capability_with more 0)) ≡ true
+  first-known : is_some (checked_kind (capability_with more 0)) ≡ true
   unfolding part input_words padded_to16 capability_words
   first-known = read_known _ (has-a-record (Lists c) p) refl
 

@@ -12,6 +12,7 @@ use lib.IntN.{ℤ}
 use lib.ListN.{length, get_or}
 use mir.Syntax.{w64}
 use mir.Val.{Fits}
+use Rattle.std.specs.Prelude.{Option, Some, None, is_some, option_and_then}
 use Rattle.model.specs.Reasons.{number}
 use Rattle.model.specs.declared.LeaseRequest.{LeaseRequest}
 use Rattle.model.specs.declared.Observation.{Observation}
@@ -23,8 +24,7 @@ use Rattle.rules.specs.Protocol.{Input, Calls, Acquire, Submit, Replies, Observe
 use Rattle.rules.specs.Interaction.{Refused}
 use Rattle.state.specs.State.{output_of}
 use Rattle.state.specs.declared.Answer.{Answer}
-use Rattle.state.specs.declared.Answer.TheVariants as Answer
-use Rattle.format.specs.Decode.{Record, Feeds, Malformed, word, request_of, submission_of, turn_of, reading_of, record_of, checked_kind, decode}
+use Rattle.format.specs.Decode.{Record, Feeds, Malformed, word, request_of, submission_of, turn_of, reading_of, record_of, checked, checked_kind, decode}
 use Rattle.format.specs.Kinds.{kind_at, lookup, kinds, turn_limits, limits_of, within}
 use Rattle.format.specs.declared.ReadingKind.{ReadingKind}
 use Rattle.format.specs.declared.RecordKind.{RecordKind}
@@ -40,10 +40,9 @@ use Rattle.runtime.specs.Stages.{RuntimeSound}
 use Rattle.layout.specs.Layout.{runtime_in}
 use Rattle.host_calls.specs.Calls.{Steps}
 use Rattle.host_records.specs.declared.Taken.{Taken}
-use Rattle.host_records.specs.declared.Taken.TheVariants as Taken
 use Rattle.host_records.specs.Standings.{Says, Takes}
 use Rattle.host_records.proofs.Answers.{seen_as, fed_or, is_fed}
-use Rattle.host.specs.Host.{version, fault_of, lack_of, fault_at, number_of, record_with, observed_with, asked, is_known, item_output, shown_output, Served, Asks, Writes, TellsOf, Tells, ShowsOf, Refusal, Records}
+use Rattle.host.specs.Host.{version, fault_of, lack_of, fault_at, number_of, record_with, observed_with, asked, item_output, shown_output, Served, Asks, Writes, TellsOf, Tells, ShowsOf, Refusal, Records}
 
 -- what the tests decide ---------------------------------------------------------------------------------------------------
 
@@ -158,42 +157,43 @@ at-whole w f out e z =
 
 -- a slice of words -------------------------------------------------------------------------------------------------------
 
-unknown : (k : RecordKind) (ws : List ℕ) → is_known k ≡ false → record_of k ws ≡ Malformed
+unknown : (k : Option RecordKind) (ws : List ℕ) → is_some k ≡ false → record_of k ws ≡ Malformed
 unfolding record_of
-unknown Kind.Capability ws e = absurd (false≢true (sym e))
-unknown Kind.Start ws e = absurd (false≢true (sym e))
-unknown (Kind.Turn t) ws e = absurd (false≢true (sym e))
-unknown (Kind.Reading q) ws e = absurd (false≢true (sym e))
-unknown Kind.Unknown ws e = refl
+unknown (Some k) ws e = absurd (false≢true (sym e))
+unknown None ws e = refl
 
-pub known : (ws : List ℕ) → is_known (checked_kind ws) ≡ true → checked_kind ws ≡ kind_at (word ws 0)
-unfolding checked_kind
-known ws e = by-test (within ws (limits_of (kind_at (word ws 0)))) (kind_at (word ws 0)) e
+pub known : (ws : List ℕ) → is_some (checked_kind ws) ≡ true → checked_kind ws ≡ kind_at (word ws 0)
+unfolding checked_kind checked
+known ws e = found (kind_at (word ws 0)) e
   where
-    by-test : (b : Bool) (k : RecordKind) → is_known (cond b k Kind.Unknown) ≡ true → cond b k Kind.Unknown ≡ k
-    by-test true k e = refl
-    by-test false k e = absurd (false≢true e)
+    passed : (b : Bool) (k : RecordKind) → is_some (cond b (Some k) None) ≡ true → cond b (Some k) None ≡ Some k
+    passed true k e = refl
+    passed false k e = absurd (false≢true e)
+
+    found : (k : Option RecordKind) → is_some (option_and_then (checked ws) k) ≡ true → option_and_then (checked ws) k ≡ k
+    found None e = refl
+    found (Some k) e = passed (within ws (limits_of k)) k e
 
 pub asked-short : (kind k : ℕ) (f : List ℕ) → (length f ≡ k → ⊥) → asked kind k f ≡ Malformed
 unfolding asked
 asked-short kind k f n = rw (ne_eqb (length f) k n)
 
-pub asked-unread : (kind k : ℕ) (f : List ℕ) → length f ≡ k → is_known (checked_kind (record_with kind f 0 k)) ≡ false → asked kind k f ≡ Malformed
+pub asked-unread : (kind k : ℕ) (f : List ℕ) → length f ≡ k → is_some (checked_kind (record_with kind f 0 k)) ≡ false → asked kind k f ≡ Malformed
 unfolding asked decode
 asked-unread kind k f e u = rw (eq-eqb (length f) k e) (unknown (checked_kind (record_with kind f 0 k)) (record_with kind f 0 k) u)
 
-asked-known : (kind k : ℕ) (f : List ℕ) → length f ≡ k → is_known (checked_kind (record_with kind f 0 k)) ≡ true
+asked-known : (kind k : ℕ) (f : List ℕ) → length f ≡ k → is_some (checked_kind (record_with kind f 0 k)) ≡ true
     → asked kind k f ≡ record_of (kind_at kind) (record_with kind f 0 k)
 unfolding asked decode
 asked-known kind k f e u =
-    rw (eq-eqb (length f) k e) (ap (λ (x : RecordKind). record_of x (record_with kind f 0 k)) (known (record_with kind f 0 k) u))
+    rw (eq-eqb (length f) k e) (ap (λ (x : Option RecordKind). record_of x (record_with kind f 0 k)) (known (record_with kind f 0 k) u))
 
-pub asked-acquire : (f : List ℕ) → length f ≡ 9 → is_known (checked_kind (record_with 21 f 0 9)) ≡ true
+pub asked-acquire : (f : List ℕ) → length f ≡ 9 → is_some (checked_kind (record_with 21 f 0 9)) ≡ true
     → asked 21 9 f ≡ Feeds (Calls (Acquire (request_of (record_with 21 f 0 9)) (word (record_with 21 f 0 9) 1)))
 unfolding record_of turn_of kind_at lookup kinds
 asked-acquire f e u = asked-known 21 9 f e u
 
-pub asked-submit : (f : List ℕ) → length f ≡ 15 → is_known (checked_kind (record_with 24 f 0 15)) ≡ true
+pub asked-submit : (f : List ℕ) → length f ≡ 15 → is_some (checked_kind (record_with 24 f 0 15)) ≡ true
     → asked 24 15 f ≡ Feeds (Calls (Submit (submission_of (record_with 24 f 0 15))))
 unfolding record_of turn_of kind_at lookup kinds
 asked-submit f e u = asked-known 24 15 f e u
@@ -204,7 +204,7 @@ asked-submit f e u = asked-known 24 15 f e u
 wide : {x : ℕ} → Fits w64 x → leb x 18446744073709551615 ≡ true
 wide {x} h = let l : x < 18446744073709551616 = h.fits in le-leb x 18446744073709551615 (omega (arith, l))
 
-known-turn : (b : Bool) (t : TurnKind) → is_known (cond b (Kind.Turn t) Kind.Unknown) ≡ b
+known-turn : (b : Bool) (t : TurnKind) → is_some (cond b (Some (Kind.Turn t)) None) ≡ b
 known-turn true t = refl
 known-turn false t = refl
 
@@ -226,12 +226,12 @@ unfolding within turn_limits part
 order-within f k =
     rw (wide (k 0), wide (k 1), wide (k 2), wide (k 3), wide (k 4), wide (k 5), wide (k 6), wide (k 7), wide (k 9), wide (k 10), wide (k 11), and-true (leb (get_or f 14 0) 4294967295))
 
-pub request-known : (f : List ℕ) → ((i : ℕ) → Fits w64 (get_or f i 0)) → is_known (checked_kind (record_with 21 f 0 9)) ≡ request_fits f
-unfolding checked_kind kind_at lookup kinds limits_of
+pub request-known : (f : List ℕ) → ((i : ℕ) → Fits w64 (get_or f i 0)) → is_some (checked_kind (record_with 21 f 0 9)) ≡ request_fits f
+unfolding checked_kind checked kind_at lookup kinds limits_of
 request-known f k = known-turn (within (record_with 21 f 0 9) (turn_limits Turn.Acquire)) Turn.Acquire ∙ request-within f k
 
-pub order-known : (f : List ℕ) → ((i : ℕ) → Fits w64 (get_or f i 0)) → is_known (checked_kind (record_with 24 f 0 15)) ≡ order_fits f
-unfolding checked_kind kind_at lookup kinds limits_of
+pub order-known : (f : List ℕ) → ((i : ℕ) → Fits w64 (get_or f i 0)) → is_some (checked_kind (record_with 24 f 0 15)) ≡ order_fits f
+unfolding checked_kind checked kind_at lookup kinds limits_of
 order-known f k = known-turn (within (record_with 24 f 0 15) (turn_limits Turn.Submit)) Turn.Submit ∙ order-within f k
 
 -- what is promised -------------------------------------------------------------------------------------------------------
@@ -270,20 +270,20 @@ observes {w} {w'} {a = a} {p = p} {v = v} {u = u} {v' = v'} {u' = u'} ok sensed 
 
 -- .. of a slice whose words were read
 pub acquires : {w w' words : List ℕ} (f : List ℕ) {n r : ℕ} {q : LeaseRequest} {b : Bool} {a : Answer} → n ≡ fault_of w → n ≡ 0 → length f ≡ 9
-    → b ≡ is_known (checked_kind (record_with 21 f 0 9)) → b ≡ true → words ≡ record_with 21 f 0 9 → q ≡ request_of words
+    → b ≡ is_some (checked_kind (record_with 21 f 0 9)) → b ≡ true → words ≡ record_with 21 f 0 9 → q ≡ request_of words
     → Steps w w' a (Calls (Acquire q (word words 1))) → r ≡ number_of a → Asks w w' r (asked 21 9 f)
 acquires {w} {w'} {words} f {a = a} e z l k y is q s m =
     is-served e z (asked-acquire f l (sym k ∙ y))
     (subst (λ (ws : List ℕ). Steps w w' a (Calls (Acquire (request_of ws) (word ws 1)))) is (subst (λ (x : LeaseRequest). Steps w w' a (Calls (Acquire x (word words 1)))) q s)) m
 
 pub submits : {w w' words : List ℕ} (f : List ℕ) {n r : ℕ} {q : Submission} {b : Bool} {a : Answer} → n ≡ fault_of w → n ≡ 0 → length f ≡ 15
-    → b ≡ is_known (checked_kind (record_with 24 f 0 15)) → b ≡ true → words ≡ record_with 24 f 0 15 → q ≡ submission_of words
+    → b ≡ is_some (checked_kind (record_with 24 f 0 15)) → b ≡ true → words ≡ record_with 24 f 0 15 → q ≡ submission_of words
     → Steps w w' a (Calls (Submit q)) → r ≡ number_of a → Asks w w' r (asked 24 15 f)
 submits {w} {w'} f {a = a} e z l k y is q s m =
     is-served e z (asked-submit f l (sym k ∙ y)) (subst (λ (x : Submission). Steps w w' a (Calls (Submit x))) (q ∙ ap submission_of is) s) m
 
 pub unread-of : {w w' : List ℕ} (kind k : ℕ) (f : List ℕ) {n r : ℕ} {b : Bool} → n ≡ fault_of w → n ≡ 0 → length f ≡ k
-    → b ≡ is_known (checked_kind (record_with kind f 0 k)) → b ≡ false → r ≡ 64 → w' ≡ w → Asks w w' r (asked kind k f)
+    → b ≡ is_some (checked_kind (record_with kind f 0 k)) → b ≡ false → r ≡ 64 → w' ≡ w → Asks w w' r (asked kind k f)
 unread-of kind k f e z l q ne = not-read e z (asked-unread kind k f l (sym q ∙ ne))
 
 -- what a host is told ----------------------------------------------------------------------------------------------------

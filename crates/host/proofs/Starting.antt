@@ -1,7 +1,7 @@
 -- A start from slices of words: the capabilities that they are, listed one by one, and the runtime that is made. Assumes nothing.
-use Prim.Native.Nat.{ℕ, zero, suc, ◌+◌, ◌*◌, ◌/◌, ◌%◌, ◌≤◌, ◌<◌}
+use Prim.Native.Nat.{ℕ, zero, suc, ◌+◌, ◌/◌, ◌%◌, ◌≤◌, ◌<◌}
 use mathlib.Core.Bool.{Bool, true, false, false≢true, ◌&&◌, and-false}
-use mathlib.Core.List.{List, [], ◌∷◌, ◌++◌}
+use mathlib.Core.List.{List}
 use mathlib.Core.Logic.{⊎_elim}
 use mathlib.Core.Path.{◌≡◌, refl, sym, ap, ◌∙◌, subst}
 use native.Mathlib.Nat.{eq-or-lt_of_le, le_antisymm}
@@ -11,6 +11,7 @@ use borrow.Author.Tests.{eq-eqb, ne_eqb, eqb-true}
 use lib.Dec.{eqb}
 use lib.ListN.{length, get_or, set, length-set}
 use lib.Seq.{get_or-set_same}
+use Rattle.std.specs.Prelude.{is_some}
 use Rattle.model.specs.declared.Capability.{Capability}
 use Rattle.model.specs.declared.Config.{Config}
 use Rattle.rules.specs.Protocol.{Start, start as start_rule}
@@ -21,8 +22,8 @@ use Rattle.decide_start.specs.declared.Stage.{Stage}
 use Rattle.runtime.specs.Stages.{phase_at_stage}
 use Rattle.layout.specs.Layout.{runtime_in, listing_in}
 use Rattle.host_start.specs.Starts.{ListsOne, Unlists, Clears, Makes}
-use Rattle.host_start.proofs.Zeros.{Blank, blank, sound-blank}
-use Rattle.host.specs.Host.{version, number_of, record_with, capability_with, is_known, capabilities_in, are_read, are_asked, start_in, ListsAll, Made, Begins, Wiped, Wipes}
+use Rattle.host_start.proofs.Zeros.{blank, sound-blank}
+use Rattle.host.specs.Host.{version, number_of, record_with, capability_with, capabilities_in, are_read, are_asked, start_in, ListsAll, Begins, Wiped, Wipes}
 
 -- the first word stored --------------------------------------------------------------------------------------------------
 
@@ -67,26 +68,26 @@ pub all-read-none : (f : List ℕ) → are_read f 0 ≡ true
 unfolding are_read
 all-read-none f = refl
 
-pub all-read-more : (f : List ℕ) (i : ℕ) → are_read f i ≡ true → is_known (checked_kind (capability_with f i)) ≡ true → are_read f (i + 1) ≡ true
+pub all-read-more : (f : List ℕ) (i : ℕ) → are_read f i ≡ true → is_some (checked_kind (capability_with f i)) ≡ true → are_read f (i + 1) ≡ true
 unfolding are_read
 all-read-more f i e k = rw (add-one i, e, k)
 
 -- once one is not read, all are not
-pub not-all-read : (f : List ℕ) (n i : ℕ) → i < n → is_known (checked_kind (capability_with f i)) ≡ false → are_read f n ≡ false
+pub not-all-read : (f : List ℕ) (n i : ℕ) → i < n → is_some (checked_kind (capability_with f i)) ≡ false → are_read f n ≡ false
 unfolding are_read
 not-all-read f zero i h k = absurd (omega (arith, h))
 not-all-read f (suc n) i h k =
     ⊎_elim (λ e. last n i e k) (λ l. rw (not-all-read f n i l k)) (eq-or-lt_of_le (below i n h))
   where
-    last : (n i : ℕ) → i ≡ n → is_known (checked_kind (capability_with f i)) ≡ false → are_read f (suc n) ≡ false
-    last n i e k = rw (subst (λ (j : ℕ). is_known (checked_kind (capability_with f j)) ≡ false) e k) (and-false (are_read f n))
+    last : (n i : ℕ) → i ≡ n → is_some (checked_kind (capability_with f i)) ≡ false → are_read f (suc n) ≡ false
+    last n i e k = rw (subst (λ (j : ℕ). is_some (checked_kind (capability_with f j)) ≡ false) e k) (and-false (are_read f n))
 
     below : (i n : ℕ) → i < suc n → i ≤ n
     below i n h = omega arith
 
 -- what a test of a copy of the words says
-pub read_as : {ws words : List ℕ} {b v : Bool} → words ≡ ws → b ≡ is_known (checked_kind words) → b ≡ v → is_known (checked_kind ws) ≡ v
-read_as is k e = sym (k ∙ ap (λ (l : List ℕ). is_known (checked_kind l)) is) ∙ e
+pub read_as : {ws words : List ℕ} {b v : Bool} → words ≡ ws → b ≡ is_some (checked_kind words) → b ≡ v → is_some (checked_kind ws) ≡ v
+read_as is k e = sym (k ∙ ap (λ (l : List ℕ). is_some (checked_kind l)) is) ∙ e
 
 pub all-read-end : (f : List ℕ) (n i : ℕ) → i ≤ n → n ≤ i → are_read f i ≡ true → are_read f n ≡ true
 all-read-end f n i h k e = subst (λ (m : ℕ). are_read f m ≡ true) (le_antisymm h k) e
@@ -156,15 +157,15 @@ pub unasked-length : (s f : List ℕ) → (length s ≡ 9 → ⊥) → false ≡
 unfolding are_asked
 unasked-length s f n = rw (ne_eqb (length s) 9 n)
 
-pub unasked-start : (s f : List ℕ) {words : List ℕ} {b : Bool} → words ≡ record_with 2 s 0 9 → b ≡ is_known (checked_kind words) → b ≡ false → false ≡ are_asked s f
+pub unasked-start : (s f : List ℕ) {words : List ℕ} {b : Bool} → words ≡ record_with 2 s 0 9 → b ≡ is_some (checked_kind words) → b ≡ false → false ≡ are_asked s f
 unfolding are_asked
 unasked-start s f is k e = rw (read_as is k e, and-false (eqb (length s) 9))
 
 pub unasked-rest : (s f : List ℕ) → (length f % 13 ≡ 0 → ⊥) → false ≡ are_asked s f
 unfolding are_asked
-unasked-rest s f n = rw (ne_eqb (length f % 13) 0 n, and-false (eqb (length s) 9 && is_known (checked_kind (record_with 2 s 0 9))))
+unasked-rest s f n = rw (ne_eqb (length f % 13) 0 n, and-false (eqb (length s) 9 && is_some (checked_kind (record_with 2 s 0 9))))
 
-pub asked-all : (s f : List ℕ) {words : List ℕ} {b v : Bool} → length s ≡ 9 → words ≡ record_with 2 s 0 9 → b ≡ is_known (checked_kind words) → b ≡ true
+pub asked-all : (s f : List ℕ) {words : List ℕ} {b v : Bool} → length s ≡ 9 → words ≡ record_with 2 s 0 9 → b ≡ is_some (checked_kind words) → b ≡ true
     → length f % 13 ≡ 0 → v ≡ are_read f (length f / 13) → v ≡ are_asked s f
 unfolding are_asked
 asked-all s f l is k e n r = rw (eq-eqb (length s) 9 l, read_as is k e, eq-eqb (length f % 13) 0 n) r

@@ -1,7 +1,6 @@
 -- What a host that lends words is promised by each function (docs/HOST.md), in three parts: words that are not lent as they have to be are turned away and left;
 -- whatever lent words hold, there is an answer, and as many words; where they are a sound runtime's, they stand where the rules say.
-use Rattle.std.specs.Prelude.{ℕ, zero, suc, ◌-◌, ◌*◌, ◌/◌, ◌%◌, ◌≤◌, ◌<◌, Bool, true, false, cond, ◌&&◌, List, [], ◌∷◌, ◌++◌, ◌≡◌, eqb, ltb, ℤ, length, get_or, replicate}
-use Rattle.std.specs.Prelude.{Option, Some, None}
+use Rattle.std.specs.Prelude.{ℕ, zero, suc, ◌-◌, ◌*◌, ◌/◌, ◌%◌, ◌≤◌, ◌<◌, Bool, true, false, cond, ◌&&◌, List, [], ◌∷◌, ◌++◌, ◌≡◌, eqb, ltb, ℤ, length, get_or, replicate, is_some, Option, Some, None}
 use Rattle.model.specs.Reasons.{number}
 use Rattle.model.specs.declared.Capability.{Capability}
 use Rattle.model.specs.declared.Observation.{Observation}
@@ -15,8 +14,6 @@ use Rattle.state.specs.declared.Answer.TheVariants as Answer
 use Rattle.cells.specs.Cells.{part, put}
 use Rattle.format.specs.Decode.{Record, Feeds, Malformed, word, u32_at, config_of, capability_of, checked_kind, decode}
 use Rattle.format.specs.Encode.{encode}
-use Rattle.format.specs.declared.RecordKind.{RecordKind}
-use Rattle.format.specs.declared.RecordKind.TheVariants as Kind
 use Rattle.decide_read.specs.declared.ItemKind.{ItemKind}
 use Rattle.decide_read.specs.declared.ItemKind.TheVariants as ItemKind
 use Rattle.decide_read.specs.declared.ItemShown.{ItemShown}
@@ -120,17 +117,10 @@ unfoldable pub capabilities_in : List ℕ → ℕ → List Capability
 capabilities_in f zero = []
 capabilities_in f (suc n) = capabilities_in f n ++ (capability_of (capability_with f n) ∷ [])
 
--- whether a record is of a known kind with no word above what its field can hold
-abbrev pub is_known : RecordKind → Bool
-is_known Kind.Capability = true
-is_known Kind.Start = true
-is_known (Kind.Turn t) = true
-is_known (Kind.Reading q) = true
-is_known Kind.Unknown = false
-
+-- each is a record of a known kind with no word above what its field can hold
 unfoldable pub are_read : List ℕ → ℕ → Bool
 are_read f zero = true
-are_read f (suc n) = are_read f n && is_known (checked_kind (capability_with f n))
+are_read f (suc n) = are_read f n && is_some (checked_kind (capability_with f n))
 
 -- what is listed once nothing was
 pub record ListsAll (w w' f : List ℕ) (n : ℕ) : Type 0 where
@@ -141,7 +131,7 @@ pub record ListsAll (w w' f : List ℕ) (n : ℕ) : Type 0 where
 -- the words of a start, and capabilities for it
 unfoldable pub are_asked : List ℕ → List ℕ → Bool
 are_asked s f =
-    eqb (length s) 9 && is_known (checked_kind (record_with 2 s 0 9)) && eqb (length f % 13) 0 && are_read f (length f / 13)
+    eqb (length s) 9 && is_some (checked_kind (record_with 2 s 0 9)) && eqb (length f % 13) 0 && are_read f (length f / 13)
 
 unfoldable pub start_in : List ℕ → List ℕ → Start
 start_in s f =

@@ -3,7 +3,7 @@
 // and left; lent words are answered whatever they hold; where they are a sound runtime's, they stand where the rules say, and what is told are the rules' outputs.
 #![tactic(auto)]
 
-ghost use Rattle.std.specs.Prelude.{◌+◌, ◌*◌, ◌≤◌, ◌≡◌, eqb, length};
+ghost use Rattle.std.specs.Prelude.{◌+◌, ◌*◌, ◌≤◌, ◌≡◌, eqb, is_some, length};
 ghost use Rattle.rules.specs.Protocol.{Calls, Tick, UpdateState, EmergencyStop, PollEstop, RecoverLocal, Renew, Cancel, Replies, Observed as ObservedReply, Executed as ExecutedReply, FellBack as FellBackReply, Recorded as RecordedReply, awaited_in, ReadState, ReadEpoch, ReadBootId, ReadFlags, ReadReceiptCount, ReadConfig, ReadSnapshot, ReadLease, ReadCapability, ReadReceipt};
 ghost use Rattle.state.specs.declared.Answer.TheVariants as Answered;
 ghost use Rattle.cells.specs.Cells.{part};
@@ -12,14 +12,14 @@ ghost use Rattle.format.specs.Encode.{encode};
 ghost use Rattle.runtime.specs.Stages.{phase_in};
 ghost use Rattle.layout.specs.Layout.{Long, runtime_in};
 ghost use Rattle.host_records.specs.Standings.{Takes};
-ghost use Rattle.host.specs.Host.{fault_of, lack_of, fault_at, number_of, record_with, is_known, are_read, are_asked, asked, renewal_with, observed_with, reading_with, ListsAll, Asks, Begins, Wipes, Writes, TellsOf, Tells, ShowsOf, SpeaksOf, item_output, shown_output, Refusal, Records};
+ghost use Rattle.host.specs.Host.{fault_of, lack_of, fault_at, number_of, record_with, are_read, are_asked, asked, renewal_with, observed_with, reading_with, ListsAll, Asks, Begins, Wipes, Writes, TellsOf, Tells, ShowsOf, SpeaksOf, item_output, shown_output, Refusal, Records};
 
 use cells::write;
 use decide_read::{ItemKind, ItemShown};
 use decide_reply::Observed;
 use format::{
-    ReadingKind, RecordKind, as_u32, capability_of, config_of, execute_words, fallback_words,
-    kind_of, lease_words, observe_words, plain_words, receipt_words, request_of, submission_of,
+    ReadingKind, as_u32, capability_of, config_of, execute_words, fallback_words, kind_of,
+    lease_words, observe_words, plain_words, receipt_words, request_of, submission_of,
 };
 use host_calls::{
     acquire, cancel, emergency_stop, executed, fell_back, observed, poll_estop, recorded,
@@ -103,23 +103,11 @@ fn give(out: &mut [u64], words: [u64; 26]) -> u32
     as_u32(words[0])
 }
 
-fn is_known(kind: RecordKind) -> bool
-    ensures { result ≡ is_known kind }
-{
-    match kind {
-        RecordKind::Capability => true,
-        RecordKind::Start => true,
-        RecordKind::Turn(_) => true,
-        RecordKind::Reading(_) => true,
-        RecordKind::Unknown => false,
-    }
-}
-
 // No word is above what its field can hold.
 fn is_read(words: [u64; 16]) -> bool
-    ensures { result ≡ is_known (checked_kind words) }
+    ensures { result ≡ is_some (checked_kind words) }
 {
-    is_known(kind_of(words))
+    kind_of(words).is_some()
 }
 
 // How many words a host lends.
@@ -297,7 +285,7 @@ pub fn rolthai_recover_local(state: &mut [u64], time: u64) -> u32
 // No word of a slice of 9 is above what its field can hold.
 fn is_request(f: &[u64]) -> bool
     requires { length f.now ≡ 9 }
-    ensures { result ≡ is_known (checked_kind (record_with 21 f.now 0 9)) }
+    ensures { result ≡ is_some (checked_kind (record_with 21 f.now 0 9)) }
 {
     if f[2] > 255 {
         return false;
@@ -381,7 +369,7 @@ pub fn rolthai_cancel(state: &mut [u64], owner: u64, lease: u64, time: u64) -> u
 // .. of a slice of 15
 fn is_order(f: &[u64]) -> bool
     requires { length f.now ≡ 15 }
-    ensures { result ≡ is_known (checked_kind (record_with 24 f.now 0 15)) }
+    ensures { result ≡ is_some (checked_kind (record_with 24 f.now 0 15)) }
 {
     if f[8] > 65535 {
         return false;
@@ -532,7 +520,7 @@ pub fn rolthai_refusal(state: &[u64]) -> u32
         return fault;
     }
     let reason = refusal(state);
-    reason.number() as u32
+    u32::from(u16::from(reason))
 }
 
 // records ----------------------------------------------------------------------------------------------------------------

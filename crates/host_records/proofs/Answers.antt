@@ -29,6 +29,7 @@ use Rattle.state.specs.declared.Waiting.{Waiting}
 use Rattle.decide_reply.specs.Replies.{observation_if}
 use Rattle.decide_start.specs.Starts.{Listing, start_on}
 use Rattle.decide_start.specs.declared.Listed.{Listed}
+use Rattle.std.specs.Prelude.{Option}
 use Rattle.format.specs.Decode.{Record, Lists, Starts, Feeds, Malformed, capability_of, turn_of, reading_of, checked_kind, record_of}
 use Rattle.format.specs.declared.ReadingKind.{ReadingKind}
 use Rattle.format.specs.declared.RecordKind.{RecordKind}
@@ -262,6 +263,6 @@ unfolding Says answer_words
 takes-unread = record { long = refl; goes = λ r e. goes-unread e }
 
 -- .. by its kind
-pub takes_of : {w w' : List ℕ} {d : Taken} (ws : List ℕ) {k j : RecordKind} {y : Record} → k ≡ checked_kind ws → k ≡ j → y ≡ record_of j ws → Takes w w' d ws y
+pub takes_of : {w w' : List ℕ} {d : Taken} (ws : List ℕ) {k j : Option RecordKind} {y : Record} → k ≡ checked_kind ws → k ≡ j → y ≡ record_of j ws → Takes w w' d ws y
     → Takes w w' d ws (record_of (checked_kind ws) ws)
-takes_of {w} {w'} {d} ws e f g h = subst (Takes w w' d ws) (g ∙ ap (λ (i : RecordKind). record_of i ws) (sym f ∙ e)) h
+takes_of {w} {w'} {d} ws e f g h = subst (Takes w w' d ws) (g ∙ ap (λ (i : Option RecordKind). record_of i ws) (sym f ∙ e)) h

@@ -296,16 +296,15 @@ pub fn take(state: &mut [u64], words: [u64; 16]) -> Taken
     requires { Long state.old }
     ensures { Takes state.old state.new result words (decode words) }
 {
-    let kind = kind_of(words);
-    match kind {
-        RecordKind::Capability => {
+    match kind_of(words) {
+        Some(RecordKind::Capability) => {
             list(state, capability_of(words));
             Taken::Listed
         }
-        RecordKind::Start => Taken::Answered(begun(state, words)),
-        RecordKind::Turn(kind) => Taken::Answered(turn(state, kind, words)),
-        RecordKind::Reading(reading) => Taken::Read(reading),
-        RecordKind::Unknown => Taken::Unread,
+        Some(RecordKind::Start) => Taken::Answered(begun(state, words)),
+        Some(RecordKind::Turn(kind)) => Taken::Answered(turn(state, kind, words)),
+        Some(RecordKind::Reading(reading)) => Taken::Read(reading),
+        None => Taken::Unread,
     }
 }
 

@@ -11,7 +11,7 @@ ghost use Rattle.rows.specs.Rows.{waiting_of, waiting_words, falling_of, falling
 use decide_start::{Stage, Starting};
 use format::{
     as_bool, as_u8, as_u16, as_u32, bit, bounds_of, capability_of, class_number, decision_number,
-    mask_word, reason_number, state_number, value_word, verification_word,
+    reason_number, state_number, verification_words,
 };
 use model::{
     Active, ActiveSlot, Capability, Config, Decision, Lease, LeaseRequest, LeaseSlot, Presence,
@@ -573,7 +573,7 @@ pub fn capability_row(first: u64, capability: Capability) -> [u64; 14]
     let bounds = capability.bounds;
     let low = bounds[0];
     let high = bounds[1];
-    let verification = capability.verification;
+    let [which, mask, value] = verification_words(capability.verification);
     [
         first,
         capability.id as u64,
@@ -586,9 +586,9 @@ pub fn capability_row(first: u64, capability: Capability) -> [u64; 14]
         unsigned(high.max),
         capability.require_set as u64,
         capability.require_clear as u64,
-        verification_word(verification),
-        mask_word(verification),
-        value_word(verification),
+        which,
+        mask,
+        value,
     ]
 }
 

@@ -13,6 +13,6 @@ returns c =
     let x = a.capability in
     let v = capability-told x _ c.well_formed.1.0 in
     record {
-      row = rw (c.class_number.ensures, as_read {z = (get_or x.bounds 0 zero_bounds).min} (search rules) c.unsigned.ensures, as_read {z = (get_or x.bounds 0 zero_bounds).max} (search rules) c.unsigned-2.ensures, as_read {z = (get_or x.bounds 1 zero_bounds).min} (search rules) c.unsigned-3.ensures, as_read {z = (get_or x.bounds 1 zero_bounds).max} (search rules) c.unsigned-4.ensures, c.verification_word.ensures, c.mask_word.ensures, c.value_word.ensures);
+      row = rw (c.class_number.ensures, as_read {z = (get_or x.bounds 0 zero_bounds).min} (search rules) c.unsigned.ensures, as_read {z = (get_or x.bounds 0 zero_bounds).max} (search rules) c.unsigned-2.ensures, as_read {z = (get_or x.bounds 1 zero_bounds).min} (search rules) c.unsigned-3.ensures, as_read {z = (get_or x.bounds 1 zero_bounds).max} (search rules) c.unsigned-4.ensures, c.verification_words.ensures);
       back = capability-back a.first x (record { id = search rules; resource = search rules; parameter_count = search rules; bounds = record { long = search (rules, length-mapped, c.well_formed.1.0); min0 = search rules; max0 = search rules; min1 = search rules; max1 = search rules }; require_set = search rules; require_clear = search rules; mask = v.0; value = v.1 });
     }
