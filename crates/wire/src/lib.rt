@@ -3,7 +3,7 @@
 // `host_records` for the records, over words of its own, and on `words` for the bytes.
 #![tactic(auto)]
 
-ghost use Rattle.std.specs.Prelude.{[], ◌≡◌, ◌+◌, ◌*◌, ◌≤◌, min, length};
+ghost use Rattle.std.specs.Prelude.{[], ◌≡◌, ◌+◌, ◌*◌, ◌≤◌, length};
 ghost use Rattle.words.specs.Words.{bytes_of, over};
 ghost use Rattle.format.specs.Encode.{padded};
 ghost use Rattle.host_records.specs.Records.{opening, answers_from};
@@ -13,16 +13,8 @@ use format::plain_words;
 use host_records::step;
 use words::{put_words, words_at};
 
-fn lesser(a: usize, b: usize) -> usize
-    ensures { result ≡ min a b }
-{
-    if a < b {
-        return a;
-    }
-    b
-}
-
-// Runs the first records, and writes their answers.
+// Runs the first records, and writes their answers. `wire_counters` has this loop over a step of its own: one function over both
+// would have to say of any step what a run of it leaves and answers, which is more to read than the loop twice.
 fn run_records(input: &[u8], output: &mut [u8], count: usize)
     requires { (128 * count ≤ length input.now) × (208 * count ≤ length output.old) }
     ensures output_after { output.new ≡ over output.old 0 (answer_bytes (answers_from opening (records_in input.now count))) }
@@ -30,12 +22,10 @@ fn run_records(input: &[u8], output: &mut [u8], count: usize)
 {
     // Nothing is listed, and there is no runtime.
     let mut state = [0u64; 2464];
-    let mut i: usize = 0;
-    while i < count {
+    for i in 0..count {
         let words = words_at(input, 128 * i);
         let answer = step(&mut state, words);
         put_words(output, 208 * i, answer);
-        i += 1;
     }
 }
 
@@ -55,7 +45,7 @@ pub fn rolthai_run(input: &[u8], output: &mut [u8]) -> usize
 {
     let records = input.len() / 128;
     let room = output.len() / 208;
-    let count = lesser(records, room);
+    let count = records.min(room);
     run_records(input, output, count);
     if records >= room {
         return 208 * count;

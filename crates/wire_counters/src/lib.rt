@@ -20,15 +20,11 @@ fn with_counter(numbers: Numbers, which: u64, value: u64) -> Numbers
     ensures { (result.held ≡ numbers.held) × (result.soonest ≡ numbers.soonest) }
 {
     let mut next = numbers;
-    if which == 0 {
-        next.epoch = value;
-        return next;
+    match which {
+        0 => next.epoch = value,
+        1 => next.next_receipt = value,
+        _ => next.next_lease = value,
     }
-    if which == 1 {
-        next.next_receipt = value;
-        return next;
-    }
-    next.next_lease = value;
     next
 }
 
@@ -60,12 +56,10 @@ fn run_records(input: &[u8], output: &mut [u8], count: usize)
 {
     // Nothing is listed, and there is no runtime.
     let mut state = [0u64; 2464];
-    let mut i: usize = 0;
-    while i < count {
+    for i in 0..count {
         let words = words_at(input, 128 * i);
         let answer = step(&mut state, words);
         put_words(output, 208 * i, answer);
-        i += 1;
     }
 }
 
@@ -75,14 +69,11 @@ pub fn rolthai_test_run(input: &[u8], output: &mut [u8]) -> usize
 {
     let records = input.len() / 128;
     let room = output.len() / 208;
-    if records >= room {
-        run_records(input, output, room);
-        return 208 * room;
+    let count = records.min(room);
+    run_records(input, output, count);
+    if records >= room || input.len() % 128 == 0 {
+        return 208 * count;
     }
-    run_records(input, output, records);
-    if input.len() % 128 == 0 {
-        return 208 * records;
-    }
-    answer_short(output, 208 * records);
-    208 * records + 208
+    answer_short(output, 208 * count);
+    208 * count + 208
 }
