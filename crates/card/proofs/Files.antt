@@ -14,7 +14,7 @@ use Rattle.words.specs.Words.{Bytes}
 use Rattle.card.specs.Card.{record_of, records_of, head, card_of, wrong_head, past_end, unsound, Found, Ends, Accepts, Refuses, entry_in, Contents, holding, ended, onward, records_in, same, has_head, read_card}
 use Rattle.card.specs.Claim.{AllFit, Holds, Reads, GoesOn, Refused}
 use Rattle.card.proofs.Bytes.{bytes_after, bytes_drop}
-use Rattle.card.proofs.Records.{clash, written_read, Case, past, broken, whole, cases, case-number, read-written, past-exactly, cut-past}
+use Rattle.card.proofs.Records.{written_read, Case, past, broken, whole, cases, case-number, read-written, past-exactly, cut-past}
 
 -- reading on -------------------------------------------------------------------------------------------------------------
 
@@ -87,7 +87,7 @@ split x r c rs n e =
     (cc, ap₂ holding (cc) a)
 
 none-there : {A : Type 0} (m : ℕ) (r : Receipt) (rs : List Receipt) (n : ℕ) → ended m ≡ holding (r ∷ rs) n → A
-none-there m r rs n e = let l : [] ≡ r ∷ rs = ap (λ (d : Contents). d.receipts) e in clash (cc)
+none-there m r rs n e = let l : [] ≡ r ∷ rs = ap (λ (d : Contents). d.receipts) e in absurd (cc)
 
 pub stopped : (rs : List Receipt) (bs : List ℕ) (n : ℕ) → Bytes bs → records_in 0 bs ≡ holding rs n → Stopped bs rs n
 unfolding records_of

@@ -1,16 +1,17 @@
 -- What the reader's tests say of a field, of the fields and of a record. Assumes nothing.
 use Prim.Native.Nat.{ℕ, zero, suc, ◌+◌, ◌-◌, ◌/◌, ◌<◌, ◌≤◌}
-use mathlib.Core.Bool.{Bool, true, false, ◌&&◌, cond}
+use mathlib.Core.Bool.{Bool, true, false, ◌&&◌, cond, false≢true}
 use mathlib.Core.List.{List, [], ◌∷◌, ◌++◌, append_assoc, append-nil}
-use Rattle.std.specs.Prelude.{Option, Some, None}
+use Rattle.std.specs.Prelude.{Option, Some, None, not}
+use Rattle.std.specs.Bool.{then_some}
 use Rattle.std.proofs.lemmas.Option.{none-some}
 use mathlib.Core.Path.{◌≡◌, refl, sym, ap, ◌∙◌}
 use native.Mathlib.Omega.{arith}
 use native.Mathlib.Numerals.{add-one}
-use borrow.Author.Tests.{le-leb, lt-leb, leb-true}
+use borrow.Author.Tests.{le-leb, lt-leb, leb-true, ne_eqb}
 use lib.Dec.{leb, eqb}
 use lib.ListN.{length, take, drop, get_or, set, replicate, length-drop}
-use lib.Seq.{take-suc, take-suc-set, drop-drop, get_or-drop, get_or-set_other}
+use lib.Seq.{take-suc, take-suc-set, drop-drop, get_or-set_other, take_all}
 use Rattle.model.proofs.Tests.{and_both}
 use Rattle.words.specs.Words.{little_number}
 use Rattle.card.specs.Card.{widths, receipt_of, stands, field_in, joined, odd, fields_in, sum, is_framed, receipt_in}
@@ -24,11 +25,16 @@ unfolding field_in
 field-missing zero bs h l = absurd (h refl)
 field-missing (suc w) bs h l = rw (lt-leb (suc w) (length bs) l)
 
+some-stands : (n : ℕ) → then_some (not (eqb n 0)) n ≡ cond (stands n) (Some n) None
+unfolding stands
+some-stands zero = refl
+some-stands (suc n) = rw (ne_eqb (suc n) 0 (λ e. omega (arith, e)))
+
 pub field-there : (w : ℕ) (bs : List ℕ) → (w ≡ 0 → ⊥) → w ≤ length bs
-    → field_in true w bs ≡ cond (stands (little_number (take w bs))) (Some (little_number (take w bs))) None
+    → then_some (not (eqb (little_number (take w bs)) 0)) (little_number (take w bs)) ≡ field_in true w bs
 unfolding field_in
 field-there zero bs h l = absurd (h refl)
-field-there (suc w) bs h l = rw (le-leb (suc w) (length bs) l)
+field-there (suc w) bs h l = rw (le-leb (suc w) (length bs) l) (some-stands (little_number (take (suc w) bs)))
 
 -- a field that is read is within the bytes
 is-there : (w : ℕ) (bs : List ℕ) (x n : ℕ) (t u : Bool) → leb w (length bs) ≡ t → cond (t && u) (Some x) None ≡ Some n → w ≤ length bs
@@ -56,11 +62,6 @@ pub zeros : (n k : ℕ) → get_or (replicate {A = ℕ} n 0) k 0 ≡ 0
 zeros zero k = refl
 zeros (suc n) zero = refl
 zeros (suc n) (suc k) = zeros n k
-
--- the two yes/no fields have no bytes, and there are no others
-pub no-width : (i : ℕ) → 20 ≤ i → 0 ≡ get_or widths i 0
-unfolding widths
-no-width i h = let e : 20 + (i - 20) ≡ i = omega arith in sym (rw e at (sym (get_or-drop 20 widths (i - 20) 0) ∙ zeros 2 (i - 20)))
 
 -- the field at i, of a map and bytes from a place on
 module _ (i : ℕ) (l : i < 22) (m : ℕ) (body : List ℕ) (at : ℕ) where
@@ -114,23 +115,35 @@ none_left ns m (b ∷ bs) e h = absurd (omega arith)
 
 -- the frame of a record --------------------------------------------------------------------------------------------------
 
-pub frame-short : (L : ℕ) (body end : List ℕ) → L < 4 → false ≡ is_framed L body end
-unfolding is_framed
-frame-short L body end h = rw (lt-leb 4 L h)
+joined-tests : (t u v : Bool) → (t && u) ≡ true → v ≡ (t && (u && v))
+joined-tests true true v e = refl
+joined-tests true false v e = absurd (false≢true e)
+joined-tests false u v e = absurd (false≢true e)
 
-pub frame-long : (L : ℕ) (body end : List ℕ) → 4 ≤ L → 126 < L → false ≡ is_framed L body end
-unfolding is_framed
-frame-long L body end h k = rw (le-leb 4 L h, lt-leb L 126 k)
+unjoined-tests : (t u v : Bool) → (t && u) ≡ false → false ≡ (t && (u && v))
+unjoined-tests true true v e = absurd (false≢true (sym e))
+unjoined-tests true false v e = refl
+unjoined-tests false u v e = refl
 
-pub frame-sum : (L : ℕ) (body end : List ℕ) → 4 ≤ L → L ≤ 126 → eqb (little_number end) (L + sum body) ≡ is_framed L body end
-unfolding is_framed
-frame-sum L body end h k = rw (le-leb 4 L h, le-leb L 126 k)
+module _ (L : ℕ) (body end : List ℕ) where
+  pub frame-in : (leb 4 L && leb L 126) ≡ true → eqb (little_number end) (L + sum body) ≡ is_framed L body end
+  unfolding is_framed
+  frame-in e = joined-tests (leb 4 L) (leb L 126) _ e
+
+  pub frame-out : (leb 4 L && leb L 126) ≡ false → false ≡ is_framed L body end
+  unfolding is_framed
+  frame-out e = unjoined-tests (leb 4 L) (leb L 126) (eqb (little_number end) (L + sum body)) e
 
 pub frame-least : (L : ℕ) (body end : List ℕ) → is_framed L body end ≡ true → 4 ≤ L
 unfolding is_framed
 frame-least L body end e = leb-true 4 L (and_both (leb 4 L) (leb L 126 && eqb (little_number end) (L + sum body)) e).0
 
 -- the receipt of a record ------------------------------------------------------------------------------------------------
+
+-- the fields as the code reads them
+pub fields-are : (body : List ℕ) {m : ℕ} → m ≡ little_number (take 4 body)
+    → fields_in widths (little_number (take 4 body)) (drop 4 body) ≡ fields_in widths m (take (length body - 4) (drop 4 body))
+fields-are body e = rw (e, take_all (length body - 4) (drop 4 body) (simp length-drop (omega arith)))
 
 module _ (L : ℕ) (body end : List ℕ) where
   abbrev fields : Option (List ℕ)

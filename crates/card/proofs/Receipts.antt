@@ -2,7 +2,7 @@
 use Prim.Native.Nat.{ℕ, zero, suc, ◌+◌, ◌*◌, ◌/◌, ◌%◌, ◌<◌}
 use mathlib.Core.Bool.{Bool, true, false}
 use mathlib.Core.List.{List, [], ◌∷◌}
-use Rattle.std.specs.Prelude.{Some}
+use Rattle.std.specs.Prelude.{Option, Some, None}
 use Rattle.std.proofs.lemmas.Option.{none-some, same_Some}
 use mathlib.Core.Path.{◌≡◌, refl, sym, subst}
 use native.Mathlib.Omega.{arith}
@@ -14,8 +14,6 @@ use lib.Seq.{drop-cons}
 use Rattle.model.specs.Decisions.{decision_number, decision_at}
 use Rattle.model.specs.Reasons.{number, reason_at}
 use Rattle.model.specs.declared.Decision.{Decision}
-use Rattle.model.specs.declared.Numbered.{Numbered}
-use Rattle.model.specs.declared.NumberedDecision.{NumberedDecision}
 use Rattle.model.specs.declared.Reason.{Reason}
 use Rattle.model.specs.declared.Receipt.{Receipt}
 use Rattle.model.proofs.Decisions.{decision-number, number-decision}
@@ -187,11 +185,11 @@ pub made : (ns : List ℕ) (r : Receipt) → Fit widths ns → receipt_of ns ≡
 unfolding receipt_of receipt_from
 made ns r f h = go (decision_at (nth ns 9)) refl (reason_at (nth ns 10)) refl h
   where
-    go : (d : NumberedDecision) → decision_at (nth ns 9) ≡ d → (e : Numbered) → reason_at (nth ns 10) ≡ e → receipt_from d e ns ≡ Some r → Made ns r
-    go (NumberedDecision.Known d) p (Numbered.Known e) q h =
+    go : (d : Option Decision) → decision_at (nth ns 9) ≡ d → (e : Option Reason) → reason_at (nth ns 10) ≡ e → receipt_from d e ns ≡ Some r → Made ns r
+    go (Some d) p (Some e) q h =
         let ds = number-decision (nth ns 9) d p in
         let es = number-reason (nth ns 10) e q in
         subst (Made ns) (same_Some (receipt_with d e ns) r h)
         (record { fits = fits-with ns f d e; numbers = numbers-with ns f d e ds es })
-    go (NumberedDecision.Known d) p Numbered.Unknown q h = absurd (none-some r h)
-    go NumberedDecision.Unknown p e q h = absurd (none-some r h)
+    go (Some d) p None q h = absurd (none-some r h)
+    go None p e q h = absurd (none-some r h)

@@ -23,10 +23,6 @@ use Rattle.card.proofs.Bytes.{bytes_take, bytes_drop, bytes-append, bytes-little
 use Rattle.card.proofs.FieldLaws.{fit_length, map_below, fields-length, fields-bytes, fields_read, Written, fields-written}
 use Rattle.card.proofs.Receipts.{numbers_fit, receipt-back, made}
 
--- two different constructors are never equal
-pub clash : {A : Type 0} → ◌≡◌ {A = ℕ} 0 1 → A
-clash z = absurd (omega arith)
-
 -- a receipt's body, and the last two bytes of a record
 abbrev body_for : Receipt → List ℕ
 body_for r = body_of widths (numbers_of r)
@@ -196,7 +192,7 @@ case-written {L} {xs} {r} b (whole h p) =
 
 pub read-written : (bs : List ℕ) (r : Receipt) (rest : List ℕ) → Bytes bs → entry_in bs ≡ Accepts r rest → Holds bs r rest
 unfolding entry_in
-read-written [] r rest b e = clash (cc)
+read-written [] r rest b e = absurd (cc)
 read-written (L ∷ xs) r rest b e = case-written b.1 (subst (Case L xs) e (cases L xs))
 
 pub first-bytes : (bs : List ℕ) (r : Receipt) (rest : List ℕ) → Bytes bs → entry_in bs ≡ Accepts r rest
@@ -235,7 +231,7 @@ module _ {L : ℕ} {xs : List ℕ} where
 -- a refusal by its number
 pub error-number : (bs : List ℕ) (n : ℕ) → entry_in bs ≡ Refuses n → error_number (error_of n) ≡ n
 unfolding entry_in
-error-number [] n e = clash (cc)
+error-number [] n e = absurd (cc)
 error-number (L ∷ xs) n e = case-error (subst (Case L xs) e (cases L xs))
 
 -- 122: it ends past the file
@@ -246,7 +242,7 @@ past-exactly L xs = (λ e. case-past refl (subst (Case L xs) e (cases L xs)), λ
 -- 123: it does not, and is no receipt's
 refused-so : (L : ℕ) (xs : List ℕ) → Refused unsound L xs → Broken L xs
 refused-so L xs e =
-    record { whole = case-broken refl (subst (Case L xs) e (cases L xs)); none = λ r rest f p. clash (cc (written_read r rest f)) }
+    record { whole = case-broken refl (subst (Case L xs) e (cases L xs)); none = λ r rest f p. absurd (cc (written_read r rest f)) }
 
 pub unsound-exactly : (L : ℕ) (xs : List ℕ) → Bytes (L ∷ xs) → Refused unsound L xs ↔ Broken L xs
 unsound-exactly L xs b = (λ e. refused-so L xs e, λ n. broken-refused b.1 n (cases L xs))

@@ -1,12 +1,13 @@
 -- One field of the 22 numbers of a receipt: what it adds to the map and to the body. Assumes nothing.
-use Prim.Native.Nat.{ℕ, zero, suc, ◌+◌, ◌*◌, ◌<◌, ◌≤◌}
+use Prim.Native.Nat.{ℕ, zero, suc, ◌+◌, ◌*◌, ◌%◌, ◌^◌, ◌<◌, ◌≤◌}
 use mathlib.Core.Bool.{true, false, cond}
 use mathlib.Core.List.{List, [], ◌∷◌, ◌++◌}
-use mathlib.Core.Path.{◌≡◌, refl, ap, ◌∙◌}
-use native.Mathlib.Nat.{lt_of_lt_of_le}
+use mathlib.Core.Path.{◌≡◌, refl, sym, ap, ◌∙◌}
+use native.Mathlib.Nat.{lt_of_lt_of_le, mod-eq_of_lt, mul-add, mul_assoc, mul_left_comm, mul-one, pow-succ'}
+use native.Mathlib.Numerals.{add-one}
 use native.Mathlib.Omega.{arith}
 use lib.ListN.{length, drop, get_or, length-append, length-drop, drop_of_length-le}
-use lib.Pow.{pow_mono}
+use lib.Pow.{pow-lt, pow_mono}
 use Rattle.words.specs.Words.{little_end, over}
 use Rattle.words.proofs.Ends.{length-little_end}
 use Rattle.words.proofs.Over.{over-over}
@@ -44,6 +45,19 @@ module _ (ns : List ℕ) (m : length ns ≡ 22) (j i : ℕ) (e : j + 1 ≡ i) (l
   unfolding bit
   map_on h = omega (arith, rw (stands-so (get_or ns j 0) h) at map_at)
 
+  -- the map of the fields passed, with that of those to come
+  twice : 2 ^ i ≡ 2 * 2 ^ j
+  twice = ap (λ (n : ℕ). 2 ^ n) (sym e ∙ add-one j) ∙ pow-succ' 2 j
+
+  pub passed-off : (map : ℕ) → map + 2 ^ j * map_of (drop j ns) ≡ map_of ns → get_or ns j 0 ≡ 0 → map + 2 ^ i * map_of (drop i ns) ≡ map_of ns
+  passed-off map h z = rw (twice, mul_assoc 2 (2 ^ j) (map_of (drop i ns))) (omega (arith, rw (map-off z, mul_left_comm (2 ^ j) 2 (map_of (drop i ns))) at h))
+
+  pub passed-on : (map : ℕ) → map + 2 ^ j * map_of (drop j ns) ≡ map_of ns → (get_or ns j 0 ≡ 0 → ⊥) → map + 2 ^ j + 2 ^ i * map_of (drop i ns) ≡ map_of ns
+  passed-on map h z =
+      let p : 2 ^ j * (2 * map_of (drop i ns) + 1) ≡ 2 * (2 ^ j * map_of (drop i ns)) + 2 ^ j =
+      mul-add (2 ^ j) (2 * map_of (drop i ns)) 1 ∙ rw (mul_left_comm (2 ^ j) 2 (map_of (drop i ns)), mul-one (2 ^ j)) in
+      rw (twice, mul_assoc 2 (2 ^ j) (map_of (drop i ns))) (omega (arith, p, rw (map_on z) at h))
+
   pub fields-off : get_or ns j 0 ≡ 0 → fields_of (drop j widths) (drop j ns) ≡ fields_of (drop i widths) (drop i ns)
   fields-off h = rw (stands-not (get_or ns j 0) h) at fields_at
 
@@ -63,6 +77,15 @@ module _ (ns : List ℕ) (m : length ns ≡ 22) (j i : ℕ) (e : j + 1 ≡ i) (l
       ≡ over card place (fields_of (drop j widths) (drop j ns))
   field-placed card place w q h k =
       over-over card place _ _ w (length-little_end w (get_or ns j 0)) (omega (arith, size-on h)) ∙ rw (q, fields-on h)
+
+-- a bit of the map
+pub bit-below : (i : ℕ) → i < 22 → 2 ^ i < 4194304
+bit-below i h = pow-lt {i = i} {j = 22} h
+
+pub shifted : (i : ℕ) → i < 22 → (1 * 2 ^ i) % 18446744073709551616 ≡ 2 ^ i
+shifted i h =
+    let e : 1 * 2 ^ i ≡ 2 ^ i = omega arith in
+    rw e (mod-eq_of_lt (omega (arith, bit-below i h)))
 
 -- bounds -----------------------------------------------------------------------------------------------------------------
 

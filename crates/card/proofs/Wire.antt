@@ -1,18 +1,18 @@
 -- A receipt in words: what is within its fields, and the numbers of words. Assumes nothing.
 use Prim.Native.Nat.{ℕ, zero, suc, ◌+◌, ◌*◌, ◌<◌, ◌≤◌, suc-le-suc}
-use mathlib.Core.Bool.{true, false, ◌&&◌}
-use mathlib.Core.List.{List, [], ◌∷◌, ◌++◌}
+use mathlib.Core.Bool.{true, false}
+use mathlib.Core.List.{List, [], ◌∷◌}
 use Rattle.std.specs.Prelude.{Option, Some, None, Result, Ok, Err}
-use mathlib.Core.Path.{◌≡◌, refl, ◌∙◌}
+use mathlib.Core.Path.{◌≡◌, refl}
 use native.Mathlib.Omega.{arith}
 use borrow.Author.Tests.{leb-true, eq-eqb, ne_eqb, lt-ltb, le-ltb}
 use lib.Dec.{T, leb, ltb, lit<}
-use lib.ListN.{length, drop, get_or, drop_of_length-le}
+use lib.ListN.{length, drop, get_or}
+use Rattle.std.specs.List.{list_all, zip}
 use Rattle.model.proofs.Tests.{and_both}
 use Rattle.model.specs.declared.Receipt.{Receipt}
-use Rattle.words.specs.Words.{words_at, little_end, bytes_of, over}
-use Rattle.words.proofs.Ends.{length-little_end, length-bytes_of}
-use Rattle.words.proofs.Over.{over-over}
+use Rattle.words.specs.Words.{words_at, bytes_of, over}
+use Rattle.words.proofs.Ends.{length-bytes_of}
 use Rattle.card.specs.declared.CardError.{CardError}
 use Rattle.card.specs.declared.Record.{Record}
 use Rattle.card.specs.Card.{widths, receipt_of, Found, Ends, Accepts, Refuses, entry_in}
@@ -20,24 +20,14 @@ use Rattle.card.specs.Functions.{error_number, error_of, read_of, read_at, Fit}
 use Rattle.card.specs.Wire.{wire_limits, within, wire_numbers, wire_words_from, wire_words, wire_receipt, head_answer, entry_answer, entry_read, wire_answer, wire_read}
 use Rattle.card.proofs.Receipts.{◌and◌}
 use Rattle.card.proofs.Records.{error-number}
-use Rattle.card.proofs.Steps.{rest_at}
 
 -- within its limits ------------------------------------------------------------------------------------------------------
 
-module _ (ws ls : List ℕ) (i : ℕ) (n : i < length ws) (m : i < length ls) where
-  within-at : within (drop i ws) (drop i ls) ≡ (leb (get_or ws i 0) (get_or ls i 0) && within (drop (i + 1) ws) (drop (i + 1) ls))
-  unfolding within
-  within-at = rw (rest_at ws i n, rest_at ls i m)
-
-  pub within_on : leb (get_or ws i 0) (get_or ls i 0) ≡ true → within (drop i ws) (drop i ls) ≡ within (drop (i + 1) ws) (drop (i + 1) ls)
-  within_on e = within-at ∙ rw e
-
-  pub within-off : leb (get_or ws i 0) (get_or ls i 0) ≡ false → within (drop i ws) (drop i ls) ≡ false
-  within-off e = within-at ∙ rw e
-
-pub within_end : (ws ls : List ℕ) (i : ℕ) → length ws ≤ i → within (drop i ws) (drop i ls) ≡ true
+pub within-all : (ws ls : List ℕ) → list_all (λ (p : ℕ × ℕ). leb p.0 p.1) (zip ws ls) ≡ within ws ls
 unfolding within
-within_end ws ls i h = rw (drop_of_length-le ws h)
+within-all [] ls = refl
+within-all (w ∷ ws) [] = refl
+within-all (w ∷ ws) (l ∷ ls) = rw (within-all ws ls)
 
 pub at_most : (ws ls : List ℕ) (i : ℕ) → within ws ls ≡ true → i < length ls → get_or ws i 0 ≤ get_or ls i 0
 unfolding within
@@ -83,20 +73,6 @@ module _ (ws : List ℕ) (e : within ws wire_limits ≡ true) where
       and below 22 tt
       and below 23 tt
       and tt
-
--- writing words ----------------------------------------------------------------------------------------------------------
-
-words-at : (ws : List ℕ) (i : ℕ) → i < length ws → bytes_of (drop i ws) ≡ little_end 8 (get_or ws i 0) ++ bytes_of (drop (i + 1) ws)
-unfolding bytes_of
-words-at ws i h = rw (rest_at ws i h)
-
--- the word written, and the rest after it
-pub word-placed : (out ws : List ℕ) (i : ℕ) → i < length ws → 8 * i + 8 ≤ length out
-    → over (over out (8 * i) (little_end 8 (get_or ws i 0))) (8 * (i + 1)) (bytes_of (drop (i + 1) ws)) ≡ over out (8 * i) (bytes_of (drop i ws))
-word-placed out ws i h l =
-    let e : 8 * (i + 1) ≡ 8 * i + 8 = omega arith in
-    let p = over-over out (8 * i) (little_end 8 (get_or ws i 0)) (bytes_of (drop (i + 1) ws)) 8 (length-little_end 8 (get_or ws i 0)) l in
-    rw (e, p, words-at ws i h)
 
 pub words_size : (r : Receipt) → length (bytes_of (wire_words r)) ≡ 192
 unfolding wire_words wire_words_from

@@ -3,15 +3,11 @@ use Prim.Native.Nat.{ℕ, ◌+◌, ◌≤◌, ◌<◌}
 use mathlib.Core.Bool.{Bool, true, false, cond}
 use mathlib.Core.List.{List}
 use mathlib.Core.Path.{◌≡◌, refl}
-use native.Mathlib.Omega.{arith}
 use borrow.Author.Tests.{le-leb, lt-leb}
 use lib.ListN.{length}
 use Rattle.std.specs.Prelude.{Some, None, unwrap_or}
-use lib.Seq.{take_all}
 use Rattle.words.specs.Words.{over}
-use Rattle.card.specs.Card.{head, has_head}
 use Rattle.card.specs.Functions.{has_room, written, counted, count}
-use Rattle.card.proofs.Steps.{same-uneven}
 
 module _ (card : List ℕ) (at : ℕ) (bs : List ℕ) where
   pub with-room : at + length bs ≤ length card → (Some (length bs) ≡ counted card at bs) × (over card at bs ≡ written card at bs)
@@ -34,8 +30,3 @@ counted-or card at bs = go (has_room card at bs)
     go : (t : Bool) → unwrap_or (cond t (Some (length bs)) None) 0 ≡ cond t (length bs) 0
     go true = refl
     go false = refl
-
--- a card that is shorter than the head has none
-pub no-head : (card : List ℕ) → length card < 4 → has_head card ≡ false
-unfolding has_head head
-no-head card h = rw (take_all 4 card (omega arith)) (same-uneven card head (λ e. omega (arith, e)))

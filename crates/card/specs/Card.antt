@@ -3,8 +3,6 @@ use Rattle.std.specs.Prelude.{ℕ, zero, suc, ◌+◌, ◌*◌, ◌/◌, ◌%◌
 use Rattle.model.specs.Decisions.{decision_number, decision_at}
 use Rattle.model.specs.Reasons.{number, reason_at}
 use Rattle.model.specs.declared.Decision.{Decision}
-use Rattle.model.specs.declared.Numbered.{Numbered}
-use Rattle.model.specs.declared.NumberedDecision.{NumberedDecision}
 use Rattle.model.specs.declared.Reason.{Reason}
 use Rattle.model.specs.declared.Receipt.{Receipt}
 use Rattle.words.specs.Signs.{unsigned, signed}
@@ -89,10 +87,10 @@ receipt_with decision reason ns =
     }
 
 -- the receipt of 22 numbers; none for "a decision or reason that has no number"
-unfoldable pub receipt_from : NumberedDecision → Numbered → List ℕ → Option Receipt
-receipt_from (NumberedDecision.Known d) (Numbered.Known e) ns = Some (receipt_with d e ns)
-receipt_from (NumberedDecision.Known d) Numbered.Unknown ns = None
-receipt_from NumberedDecision.Unknown e ns = None
+unfoldable pub receipt_from : Option Decision → Option Reason → List ℕ → Option Receipt
+receipt_from (Some d) (Some e) ns = Some (receipt_with d e ns)
+receipt_from (Some d) None ns = None
+receipt_from None e ns = None
 
 unfoldable pub receipt_of : List ℕ → Option Receipt
 receipt_of ns = receipt_from (decision_at (nth ns 9)) (reason_at (nth ns 10)) ns

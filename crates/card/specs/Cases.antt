@@ -152,5 +152,5 @@ abbrev pub demanded : Worked → Outcome
 demanded v = record { written = v.bytes; read = Accepts v.receipt rest; words = v.words }
 
 pub worked-so : map outcome worked ≡ map demanded worked
-unfolding worked grant order full record_of framed sum body_of fields_of map_of stands numbers_of bit pair_number widths little_end unsigned decision_number entry_in judged receipt_in is_framed fields_in joined field_in receipt_of receipt_from receipt_with pair_of little_number signed decision_at wire_words wire_words_from
+unfolding worked grant order full record_of framed sum body_of fields_of map_of stands numbers_of bit pair_number widths little_end unsigned decision_number entry_in judged receipt_in is_framed fields_in joined field_in receipt_of receipt_from receipt_with pair_of little_number signed wire_words wire_words_from
 worked-so = refl

@@ -4,15 +4,15 @@
 // Rests on `model` for the receipts, and on `words` for numbers in bytes.
 #![tactic(auto)]
 
-ghost use Rattle.std.specs.Prelude.{◌+◌, ◌%◌, ◌≤◌, ◌<◌, true, ◌≡◌, length, drop, get_or, None, MatchOption};
+ghost use Rattle.std.specs.Prelude.{◌+◌, ◌%◌, ◌≤◌, ◌<◌, true, ◌≡◌, length, drop, get_or, None, MatchOption, IsTrue};
 ghost use Rattle.words.specs.Signs.{unsigned as unsigned_of};
 ghost use Rattle.words.specs.Words.{words_at, bytes_of, over};
 ghost use Rattle.card.specs.Card.{widths, pair_number, pair_of, bit as bit_of, numbers_of, receipt_with, receipt_of, fields_of, sum as sum_of, record_of, head, field_in, fields_in, is_framed, receipt_in, same, has_head};
 ghost use Rattle.card.specs.Functions.{written, counted, count as count_of, error_number, read_at, Reached, Plans, Fit};
 ghost use Rattle.card.specs.Wire.{wire_limits, within, wire_numbers, wire_receipt, wire_words, wire_count, wire_written, head_answer, wire_answer, wire_read};
 
-use model::{Decision, Numbered, NumberedDecision, Reason, Receipt};
-use words::{number, put_number, signed, unsigned, word};
+use model::{Decision, Reason, Receipt};
+use words::{number, put_number, put_words, signed, unsigned, words_at};
 
 // An accepted record: its receipt, and the place after it.
 #[derive(Clone, Copy)]
@@ -41,41 +41,11 @@ impl CardError {
 
 // the head ---------------------------------------------------------------------------------------------------------------
 
-fn is_same(a: &[u8], b: &[u8]) -> bool
-    ensures { result ≡ same a.now b.now }
-{
-    if a.len() != b.len() {
-        return false;
-    }
-    let mut i = 0;
-    while i < a.len() {
-        if a[i] != b[i] {
-            return false;
-        }
-        i += 1;
-    }
-    true
-}
-
 // False: 121.
 pub fn has_head(card: &[u8]) -> bool
     ensures { result ≡ has_head card.now }
 {
-    if card.len() < 4 {
-        return false;
-    }
-    is_same(&card[..4], b"RCT1")
-}
-
-fn put(card: &mut [u8], bytes: &[u8])
-    requires { length bytes.now ≤ length card.old }
-    ensures { card.new ≡ over card.old 0 bytes.now }
-{
-    let mut i = 0;
-    while i < bytes.len() {
-        card[i] = bytes[i];
-        i += 1;
-    }
+    card.starts_with(b"RCT1")
 }
 
 // 4; none where there is no room, and nothing is written.
@@ -86,126 +56,68 @@ pub fn put_head(card: &mut [u8]) -> Option<usize>
     if card.len() < 4 {
         return None;
     }
-    put(card, b"RCT1");
+    card[..4].copy_from_slice(b"RCT1");
     Some(4)
 }
 
 // a receipt as 22 numbers ------------------------------------------------------------------------------------------------
 
-// How many bytes each field takes, in the order of `Receipt` in model.rs: none for the two yes/no fields at the end. As a table in memory it
-// would be made anew at each use.
+// How many bytes each field takes, in the order of `Receipt` in model.rs: none for the two yes/no fields at the end.
+const WIDTHS: [usize; 22] = [
+    8, 8, 4, 8, 8, 8, 2, 1, 8, 1, 2, 8, 8, 8, 8, 8, 8, 4, 4, 8, 0, 0,
+];
+
 fn width(i: usize) -> usize
+    requires { i < 22 }
     ensures value { result ≡ get_or widths i 0 }
     ensures upper_bound { result ≤ 8 }
 {
-    match i {
-        0 => 8,
-        1 => 8,
-        2 => 4,
-        3 => 8,
-        4 => 8,
-        5 => 8,
-        6 => 2,
-        7 => 1,
-        8 => 8,
-        9 => 1,
-        10 => 2,
-        11 => 8,
-        12 => 8,
-        13 => 8,
-        14 => 8,
-        15 => 8,
-        16 => 8,
-        17 => 4,
-        18 => 4,
-        19 => 8,
-        _ => 0,
-    }
-}
-
-fn bits(value: i32) -> u64
-    ensures value { result ≡ unsigned_of value }
-    ensures upper_bound { result < 4294967296 }
-{
-    unsigned(value)
+    WIDTHS[i]
 }
 
 // Eight bytes, the first number in front.
 fn pair_number(pair: [i32; 2]) -> u64
     ensures { result ≡ pair_number pair }
 {
-    let first = bits(pair[0]);
-    let second = bits(pair[1]);
-    first + 4294967296 * second
+    unsigned(pair[0]) + 4294967296 * unsigned(pair[1])
 }
 
 fn pair_of(n: u64) -> [i32; 2]
     ensures { result ≡ pair_of n }
 {
-    [signed(low32(n)), signed(low32(n / 4294967296))]
-}
-
-fn bit(value: bool) -> u64
-    ensures { result ≡ bit_of value }
-{
-    if value { 1 } else { 0 }
-}
-
-fn wide(value: u32) -> u64
-    ensures { result ≡ value }
-{
-    value as u64
-}
-
-fn low32(n: u64) -> u32
-    ensures { result ≡ n % 4294967296 }
-{
-    (n % 4294967296) as u32
-}
-
-fn low16(n: u64) -> u16
-    ensures { result ≡ n % 65536 }
-{
-    (n % 65536) as u16
-}
-
-fn low8(n: u64) -> u8
-    ensures { result ≡ n % 256 }
-{
-    (n % 256) as u8
+    [
+        signed((n % 4294967296) as u32),
+        signed((n / 4294967296) as u32),
+    ]
 }
 
 // The fields in the order of `Receipt` in model.rs, each as one number.
 fn numbers_of(r: Receipt) -> [u64; 22]
     ensures { result ≡ numbers_of r }
 {
-    let decision = r.decision;
-    let reason = r.reason;
-    let requested = r.requested;
-    let observed = r.observed;
     [
         r.boot_id,
         r.principal,
-        wide(r.safety_flags),
+        u64::from(r.safety_flags),
         r.receipt_id,
         r.action_id,
         r.sequence,
-        r.capability as u64,
-        r.resource as u64,
+        u64::from(r.capability),
+        u64::from(r.resource),
         r.lease_id,
-        decision.number() as u64,
-        reason.number() as u64,
+        u64::from(u8::from(r.decision)),
+        u64::from(u16::from(r.reason)),
         r.epoch,
         r.received_at,
         r.admitted_at,
         r.executed_at,
-        pair_number(requested),
-        pair_number(observed),
-        wide(r.pre_state),
-        wide(r.post_state),
+        pair_number(r.requested),
+        pair_number(r.observed),
+        u64::from(r.pre_state),
+        u64::from(r.post_state),
         r.original_receipt,
-        bit(r.dispatched),
-        bit(r.observed_valid),
+        u64::from(r.dispatched),
+        u64::from(r.observed_valid),
     ]
 }
 
@@ -213,28 +125,26 @@ fn receipt_with(decision: Decision, reason: Reason, numbers: [u64; 22]) -> Recei
     requires { Fit widths numbers }
     ensures { result ≡ receipt_with decision reason numbers }
 {
-    let requested = pair_of(numbers[15]);
-    let observed = pair_of(numbers[16]);
     Receipt {
         boot_id: numbers[0],
         principal: numbers[1],
-        safety_flags: low32(numbers[2]),
+        safety_flags: numbers[2] as u32,
         receipt_id: numbers[3],
         action_id: numbers[4],
         sequence: numbers[5],
-        capability: low16(numbers[6]),
-        resource: low8(numbers[7]),
+        capability: numbers[6] as u16,
+        resource: numbers[7] as u8,
         lease_id: numbers[8],
-        decision: decision,
-        reason: reason,
+        decision,
+        reason,
         epoch: numbers[11],
         received_at: numbers[12],
         admitted_at: numbers[13],
         executed_at: numbers[14],
-        requested: requested,
-        observed: observed,
-        pre_state: low32(numbers[17]),
-        post_state: low32(numbers[18]),
+        requested: pair_of(numbers[15]),
+        observed: pair_of(numbers[16]),
+        pre_state: numbers[17] as u32,
+        post_state: numbers[18] as u32,
         original_receipt: numbers[19],
         dispatched: numbers[20] == 1,
         observed_valid: numbers[21] == 1,
@@ -246,10 +156,10 @@ fn receipt_of(numbers: [u64; 22]) -> Option<Receipt>
     requires { Fit widths numbers }
     ensures { result ≡ receipt_of numbers }
 {
-    let NumberedDecision::Known(decision) = Decision::from_number(low8(numbers[9])) else {
+    let Ok(decision) = Decision::try_from(numbers[9] as u8) else {
         return None;
     };
-    let Numbered::Known(reason) = Reason::from_number(low16(numbers[10])) else {
+    let Ok(reason) = Reason::try_from(numbers[10] as u16) else {
         return None;
     };
     Some(receipt_with(decision, reason, numbers))
@@ -264,18 +174,14 @@ struct Plan {
     length: usize,
 }
 
-// From the last field to the first, so that the map doubles at each.
 fn plan_of(numbers: [u64; 22]) -> Plan
     ensures { Plans numbers result }
 {
     let mut map = 0;
     let mut length = 4;
-    let mut i = 22;
-    while i > 0 {
-        i -= 1;
-        map = 2 * map;
+    for i in 0..22 {
         if numbers[i] != 0 {
-            map += 1;
+            map += 1 << i;
             length += width(i);
         }
     }
@@ -307,7 +213,8 @@ fn put_two(card: &mut [u8], place: usize, i: usize, numbers: [u64; 22]) -> usize
     put_field(card, next, i + 1, numbers)
 }
 
-// The fields that are not zero, one after the other. Line by line and not in a loop: so the compiler knows the width of each.
+// The fields that are not zero, one after the other. Line by line: in a loop, where no width is known, the writer misses its bar, twice the time
+// of a plain one (docs/DECISIONS.md).
 fn put_fields(card: &mut [u8], at: usize, numbers: [u64; 22])
     requires { at + length (fields_of widths numbers) ≤ length card.old }
     ensures { card.new ≡ over card.old at (fields_of widths numbers) }
@@ -326,18 +233,14 @@ fn put_fields(card: &mut [u8], at: usize, numbers: [u64; 22])
     put_two(card, place, 20, numbers);
 }
 
+// In 16 bits, which are enough: the compiler adds more of them at once.
 fn sum_of(bytes: &[u8]) -> u64
     requires { length bytes.now ≤ 255 }
     ensures value { result ≡ sum_of bytes.now }
     ensures upper_bound { result < 65536 }
 {
-    let mut sum: u16 = 0;
-    let mut i = 0;
-    while i < bytes.len() {
-        sum += bytes[i] as u16;
-        i += 1;
-    }
-    sum as u64
+    let sum: u16 = bytes.iter().map(|byte| u16::from(*byte)).sum();
+    u64::from(sum)
 }
 
 // The length of the record; none where there is no room, and nothing is written.
@@ -372,15 +275,11 @@ fn field_at(body: &[u8], at: usize, width: usize) -> Option<u64>
     if width == 0 {
         return Some(1);
     }
-    if body.len() - at < width {
-        return None;
-    }
-    let end = at + width;
-    let n = number(&body[at..end]);
-    if n == 0 { None } else { Some(n) }
+    let n = number(body.get(at..at + width)?);
+    (n != 0).then_some(n)
 }
 
-// The ith field, if its bit stands; the place after it.
+// The ith field, if its bit stands; the place after it. Put into its caller, which gives the field as a number: so its width is known there.
 #[inline(always)]
 fn read_field(
     map: u64,
@@ -410,7 +309,8 @@ fn read_two(map: u64, body: &[u8], place: usize, i: usize, numbers: &mut [u64; 2
     read_field(map, body, next, i + 1, numbers)
 }
 
-// The fields by their map, from the bytes after it, line by line as they are written. Past the last field no byte and no bit may be left.
+// The fields by their map, from the bytes after it. Past the last field no byte and no bit may be left. Line by line: in a loop the reader takes
+// three times as long, and misses its bar (docs/DECISIONS.md).
 fn fields_in(map: u64, body: &[u8]) -> Option<[u64; 22]>
     ensures { result ≡ fields_in widths map body.now }
 {
@@ -438,15 +338,10 @@ fn fields_in(map: u64, body: &[u8]) -> Option<[u64; 22]>
 // The length is 4 to 126, and the last two bytes are the sum of length byte and body.
 fn is_framed(size: usize, body: &[u8], last: &[u8]) -> bool
     requires { (length body.now ≡ size) × (length last.now ≡ 2) }
-    ensures { result ≡ is_framed size body.now last.now }
+    ensures value { result ≡ is_framed size body.now last.now }
+    ensures lower_bound { IsTrue result → 4 ≤ size }
 {
-    if size < 4 {
-        return false;
-    }
-    if size > 126 {
-        return false;
-    }
-    number(last) == (size as u64) + sum_of(body)
+    (4..=126).contains(&size) && number(last) == size as u64 + sum_of(body)
 }
 
 fn receipt_in(size: usize, body: &[u8], last: &[u8]) -> Option<Receipt>
@@ -482,76 +377,32 @@ pub fn read_at(card: &[u8], at: usize) -> Result<Option<Record>, CardError>
 
 // for hosts in other languages -------------------------------------------------------------------------------------------
 
-// The most that each word of a receipt may be.
-const U64: u64 = 0xffff_ffff_ffff_ffff;
+const U64: u64 = u64::MAX;
 
-const U32: u64 = 0xffff_ffff;
+const U32: u64 = u32::MAX as u64;
 
-const U16: u64 = 0xffff;
+const U16: u64 = u16::MAX as u64;
 
-const U8: u64 = 0xff;
+const U8: u64 = u8::MAX as u64;
 
 const BOOL: u64 = 1;
 
-fn limit(i: usize) -> u64
-    ensures { result ≡ get_or wire_limits i 0 }
-{
-    match i {
-        0 => U64,
-        1 => U64,
-        2 => U32,
-        3 => U64,
-        4 => U64,
-        5 => U64,
-        6 => U16,
-        7 => U8,
-        8 => U64,
-        9 => U8,
-        10 => U16,
-        11 => U64,
-        12 => U64,
-        13 => U64,
-        14 => U64,
-        15 => U32,
-        16 => U32,
-        17 => U32,
-        18 => U32,
-        19 => U32,
-        20 => U32,
-        21 => U64,
-        22 => BOOL,
-        23 => BOOL,
-        _ => 0,
-    }
-}
+// The most that each word of a receipt may be.
+const LIMITS: [u64; 24] = [
+    U64, U64, U32, U64, U64, U64, U16, U8, U64, U8, U16, U64, U64, U64, U64, U32, U32, U32, U32,
+    U32, U32, U64, BOOL, BOOL,
+];
 
 fn are_within(words: [u64; 24]) -> bool
     ensures { result ≡ within words wire_limits }
 {
-    let mut i = 0;
-    while i < 24 {
-        if words[i] > limit(i) {
-            return false;
-        }
-        i += 1;
-    }
-    true
-}
-
-// 24 words (docs/WIRE.md, "A receipt"): the fields, a pair as two.
-fn words_in(bytes: &[u8]) -> [u64; 24]
-    requires { length bytes.now ≡ 192 }
-    ensures { result ≡ words_at 24 bytes.now 0 }
-{
-    let mut words = [0; 24];
-    let mut i = 0;
-    while i < 24 {
-        words[i] = word(bytes, 8 * i);
-        i += 1;
-    }
     words
+        .iter()
+        .zip(LIMITS.iter())
+        .all(|(word, limit)| word <= limit)
 }
 
+// The numbers of 24 words (docs/WIRE.md, "A receipt"), of which a pair is two.
 fn numbers_in(words: [u64; 24]) -> [u64; 22]
     requires { within words wire_limits ≡ true }
     ensures { result ≡ wire_numbers words }
@@ -589,7 +440,7 @@ fn receipt_at(bytes: &[u8]) -> Option<Receipt>
     if bytes.len() != 192 {
         return None;
     }
-    let words = words_in(bytes);
+    let words = words_at(bytes, 0);
     if !are_within(words) {
         return None;
     }
@@ -628,18 +479,6 @@ fn words_of(receipt: Receipt) -> [u64; 24]
     ]
 }
 
-// Writes 24 words to the front of the bytes.
-fn put_words(receipt: &mut [u8], words: [u64; 24])
-    requires { 192 ≤ length receipt.old }
-    ensures { receipt.new ≡ over receipt.old 0 (bytes_of words) }
-{
-    let mut i = 0;
-    while i < 24 {
-        put_number(receipt, 8 * i, 8, words[i]);
-        i += 1;
-    }
-}
-
 pub fn rolthai_card_head(card: &mut [u8]) -> usize
     ensures answer { result ≡ count_of card.old 0 head }
     ensures bytes { card.new ≡ written card.old 0 head }
@@ -663,10 +502,7 @@ pub fn rolthai_card_write(receipt: &[u8], card: &mut [u8]) -> usize
 fn head_answer(card: &[u8]) -> u32
     ensures { result ≡ head_answer card.now }
 {
-    if has_head(card) {
-        return 0;
-    }
-    121
+    if has_head(card) { 0 } else { 121 }
 }
 
 // At a place below 4 the head: 0 or 121. From 4 on a record: 2 where the receipt has no room for 192 bytes; else 0, 1 at the end, 122, 123.
@@ -683,7 +519,7 @@ pub fn rolthai_card_read(card: &[u8], at: usize, receipt: &mut [u8]) -> u32
     }
     match read_at(card, at) {
         Ok(Some(record)) => {
-            put_words(receipt, words_of(record.receipt));
+            put_words(receipt, 0, words_of(record.receipt));
             0
         }
         Ok(None) => 1,

@@ -1,29 +1,20 @@
+use mathlib.Core.Path.{ap, ◌∙◌}
 use borrow.Author.Rules.{rules}
-use mathlib.Core.Path.{◌≡◌, refl, sym, ◌∙◌}
-use borrow.Author.Tests.{le-leb, lt-leb}
-use lib.ListN.{length}
+use borrow.Author.Tests.{tests}
+use lib.Dec.{leb}
+use Prim.Native.Nat.{ℕ}
+use Rattle.std.proofs.Common.{Iter}
+use Rattle.std.proofs.lemmas.Iterator.{YieldsList-from_slice, YieldsList-from_zip}
+use Rattle.std.proofs.lemmas.Iterator.Search.{all_from_yields_List}
 use Rattle.card.specs.Wire.{wire_limits}
-use Rattle.card.proofs.Wire.{within_on, within-off, within_end}
+use Rattle.card.proofs.Wire.{within-all}
 use Rattle.card.proofs.are_within.Goals as goal
 
-pub loop-i-init : goal.loop-i-init
-loop-i-init c = refl
-
-pub returns-then-words-i : goal.returns-then-words-i
-unfolding wire_limits
-returns-then-words-i c =
-    let ws = c.args.words in
-    let n : length ws ≡ 24 = search rules in
-    sym (c.loop-i.invariant ∙ within-off ws wire_limits c.loop-i.i (search rules) (search rules) (lt-leb _ _ (rw c.limit.ensures at c.if-words-i.true)))
-
-pub loop-i-preserved : goal.loop-i-preserved
-unfolding wire_limits
-loop-i-preserved c =
-    let ws = c.args.words in
-    let n : length ws ≡ 24 = search rules in
-    c.loop-i.invariant ∙ within_on ws wire_limits c.loop-i.i (search rules) (search rules) (le-leb _ _ (rw c.limit.ensures at c.if-words-i.false))
-
 pub returns : goal.returns
+unfolding wire_limits
 returns c =
-    let ws = c.args.words in
-    let n : length ws ≡ 24 = search rules in sym (c.loop-i.invariant ∙ within_end ws wire_limits c.loop-i.i (search rules))
+    let f = ap (λ (it : Iter ℕ). it.rest.now) c.zip.ensures.first ∙ c.iter.ensures.rest in
+    let s = ap (λ (it : Iter ℕ). it.rest.now) c.zip.ensures.second ∙ c.iter-2.ensures.rest in
+    all_from_yields_List (λ (p : ℕ × ℕ). leb p.0 p.1) c.all.new.self _ _ c.all.ensures.ran
+    (YieldsList-from_zip (YieldsList-from_slice c.args.words f) (YieldsList-from_slice wire_limits s)) (λ x b q k. search (rules, tests))
+    ∙ within-all c.args.words wire_limits

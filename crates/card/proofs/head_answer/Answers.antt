@@ -6,6 +6,6 @@ pub returns-then-has_head : goal.returns-then-has_head
 unfolding head_answer
 returns-then-has_head c = rw (sym c.has_head.ensures ∙ c.if-has_head.true)
 
-pub returns : goal.returns
+pub returns-else-has_head : goal.returns-else-has_head
 unfolding head_answer
-returns c = rw (sym c.has_head.ensures ∙ c.if-has_head.false)
+returns-else-has_head c = rw (sym c.has_head.ensures ∙ c.if-has_head.false)

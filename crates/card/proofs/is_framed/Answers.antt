@@ -1,12 +1,17 @@
+use mathlib.Core.Bool.{◌&&◌}
+use mathlib.Core.Path.{◌≡◌, sym, ◌∙◌}
+use lib.Dec.{leb}
 use borrow.Author.Rules.{rules}
-use Rattle.card.proofs.Reading.{frame-short, frame-long, frame-sum}
+use borrow.Author.Tests.{tests}
+use Rattle.card.proofs.Reading.{frame-in, frame-out}
 use Rattle.card.proofs.is_framed.Goals as goal
 
-pub returns-then-size-lt4 : goal.returns-then-size-lt4
-returns-then-size-lt4 c = frame-short _ _ _ c.if-size-lt4.true
+pub returns-then-contains-clause-value : goal.returns-then-contains-clause-value
+returns-then-contains-clause-value c =
+    let k : c.contains.result ≡ (leb 4 c.args.size && leb c.args.size 126) = search (rules, tests) in
+    rw (c.number.ensures, c.sum_of.ensures.value) (frame-in _ _ _ (sym k ∙ c.if-contains.true))
 
-pub returns-then-size-gt126 : goal.returns-then-size-gt126
-returns-then-size-gt126 c = frame-long _ _ _ c.if-size-lt4.false c.if-size-gt126.true
-
-pub returns : goal.returns
-returns c = rw (c.number.ensures, c.sum_of.ensures.value) (frame-sum _ _ _ (search rules) (search rules))
+pub returns-else-contains-clause-value : goal.returns-else-contains-clause-value
+returns-else-contains-clause-value c =
+    let k : c.contains.result ≡ (leb 4 c.args.size && leb c.args.size 126) = search (rules, tests) in
+    rw c.if-contains.false (frame-out _ _ _ (sym k ∙ c.if-contains.false))

@@ -1,60 +1,50 @@
 use borrow.Author.Rules.{rules}
-use Prim.Native.Nat.{ℕ, ◌+◌, ◌-◌}
-use mathlib.Core.Path.{◌≡◌, sym, ap, ◌∙◌}
+use Prim.Native.Nat.{◌+◌}
+use mathlib.Core.Path.{◌≡◌, refl}
 use native.Mathlib.Omega.{arith}
-use lib.ListN.{length, drop}
-use Rattle.card.specs.Card.{widths, map_of, fields_of}
-use Rattle.card.proofs.Turns.{map_on, map-off, size-on, size-off, map-small, size_small, map-end, fields-end}
+use lib.ListN.{length}
+use Rattle.card.specs.Card.{widths, fields_of}
+use Rattle.card.proofs.Turns.{passed-on, passed-off, size-on, size-off, shifted, bit-below, map-small, size_small, map-end, fields-end}
+use Rattle.card.proofs.plan_of.Goals.{then-numbers-i-ne0, else-numbers-i-ne0}
 use Rattle.card.proofs.plan_of.Goals as goal
 
-pub loop-i-init : goal.loop-i-init
-loop-i-init c =
-    let m : length c.args.numbers ≡ 22 = search rules in
-    (search rules, sym (map-end c.args.numbers m), omega (arith, ap length (fields-end c.args.numbers)))
-
-pub overflow_mul-map : goal.overflow_mul-map
-overflow_mul-map c = omega (arith, map-small c.args.numbers c.loop-i.i (search rules))
-
 pub overflow_add-map : goal.overflow_add-map
-overflow_add-map c = omega (arith, map-small c.args.numbers c.loop-i.i (search rules))
+overflow_add-map c =
+    let l = c.loop-i in
+    let m : length c.args.numbers ≡ 22 = search rules in
+    omega (arith, l.invariant.map, map-small c.args.numbers 0 m, shifted l.i (search rules), bit-below l.i (search rules))
 
 pub overflow_add-length : goal.overflow_add-length
-overflow_add-length c =
-    let ns = c.args.numbers in
-    let i = c.loop-i.i in
-    let m : length ns ≡ 22 = search rules in
-    omega (arith, size-on ns m (i - 1) i (omega arith) (omega arith) (λ z. omega (arith, c.if-numbers-i-ne0.true, z)), size_small ns (i - 1))
-
-pub loop-i-preserved-then-numbers-i-ne0 : goal.loop-i-preserved-then-numbers-i-ne0
-loop-i-preserved-then-numbers-i-ne0 c =
-    let ns = c.args.numbers in
-    let i = c.loop-i.i in
-    let m : length ns ≡ 22 = search rules in
-    let e : i - 1 + 1 ≡ i = omega arith in (
-      search rules,
-      omega (arith, map_on ns m (i - 1) i e (search rules) (λ z. omega (arith, c.if-numbers-i-ne0.true, z))),
-      omega (arith, size-on ns m (i - 1) i e (search rules) (λ z. omega (arith, c.if-numbers-i-ne0.true, z))),
-    )
+overflow_add-length c = omega (arith, c.loop-i.invariant.length, size_small c.args.numbers 0)
 
 pub loop-i-preserved : goal.loop-i-preserved
 loop-i-preserved c =
+    let l = c.loop-i in
     let ns = c.args.numbers in
-    let i = c.loop-i.i in
     let m : length ns ≡ 22 = search rules in
-    let e : i - 1 + 1 ≡ i = omega arith in (
-      search rules,
-      omega (arith, map-off ns m (i - 1) i e (search rules) (omega (arith, c.if-numbers-i-ne0.false))),
-      omega (arith, size-off ns m (i - 1) i e (search rules) (omega (arith, c.if-numbers-i-ne0.false))),
-    )
+    elim c.if-numbers-i-ne0.branch [
+      | then-numbers-i-ne0 w ↦
+          record {
+            map = rw (w.map-is, shifted l.i (search rules)) (passed-on ns m l.i _ refl (search rules) l.map l.invariant.map w.if-numbers-i-ne0.true);
+            length = omega (arith, w.length-is, l.invariant.length, w.width-length.ensures.value, size-on ns m l.i _ refl (search rules) w.if-numbers-i-ne0.true);
+          }
+      | else-numbers-i-ne0 w ↦
+          record {
+            map = rw w.map-is (passed-off ns m l.i _ refl (search rules) l.map l.invariant.map (omega (arith, w.if-numbers-i-ne0.false)));
+            length = omega (arith, w.length-is, l.invariant.length, size-off ns m l.i _ refl (search rules) (omega (arith, w.if-numbers-i-ne0.false)));
+          }
+    ]
 
 pub returns : goal.returns
 returns c =
     let l = c.loop-i in
     let ns = c.args.numbers in
-    let e : l.i ≡ 0 = omega arith in
-    let n = l.invariant.2 ∙ ap (λ (i : ℕ). 4 + length (fields_of (drop i widths) (drop i ns))) e in
+    let m : length ns ≡ 22 = search rules in
+    let i : l.i ≡ 22 = omega arith in
+    let size : l.length ≡ 4 + length (fields_of widths ns) =
+    omega (arith, rw (i, fields-end ns) at l.invariant.length) in
     record {
-      map_is = l.invariant.1 ∙ ap (λ (i : ℕ). map_of (drop i ns)) e;
-      length-is = n;
-      short = omega (arith, size_small ns 0);
+      map_is = omega (arith, rw (i, map-end ns m) at l.invariant.map);
+      length-is = size;
+      short = omega (arith, size, size_small ns 0);
     }

@@ -1,20 +1,26 @@
-use mathlib.Core.Path.{ap, ◌∙◌}
+use mathlib.Core.Path.{refl, ap, sym, ◌∙◌}
 use Rattle.std.specs.Prelude.{Some}
-use Rattle.card.proofs.Narrow.{decision-by, reason-by, no-decision, no-reason, whole}
+use Rattle.card.specs.Card.{widths}
+use Rattle.card.proofs.FieldLaws.{fit-nth}
+use Rattle.card.proofs.Narrow.{no-decision, no-reason, whole}
 use Rattle.card.proofs.receipt_of.Goals as goal
 
-pub returns-in_default : goal.returns-in_default
-returns-in_default c =
-    no-decision c.args.numbers (decision-by c.args.numbers c.requires c.low8.ensures c.from_number.ensures c.in_default.is)
+pub overflow_cast-numbers : goal.overflow_cast-numbers
+unfolding widths
+overflow_cast-numbers c = record { fits = fit-nth c.args.numbers c.requires 9 refl }
 
-pub returns-in_default-from_number : goal.returns-in_default-from_number
-returns-in_default-from_number c =
-    let d = decision-by c.args.numbers c.requires c.low8.ensures c.from_number.ensures c.in-Known.is in
-    let e = reason-by c.args.numbers c.requires c.low16.ensures c.from_number-2.ensures c.in_default-from_number.is in
-    no-reason c.args.numbers d e
+pub overflow_cast-numbers-2 : goal.overflow_cast-numbers-2
+unfolding widths
+overflow_cast-numbers-2 c = record { fits = fit-nth c.args.numbers c.requires 10 refl }
+
+pub returns-in_default : goal.returns-in_default
+returns-in_default c = no-decision c.args.numbers (rw c.in_default.is at c.try_from.ensures)
+
+pub returns-in_default-try_from : goal.returns-in_default-try_from
+returns-in_default-try_from c =
+    no-reason c.args.numbers (rw c.in-Ok.is at c.try_from.ensures) (rw c.in_default-try_from.is at c.try_from-2.ensures)
 
 pub returns : goal.returns
 returns c =
-    let d = decision-by c.args.numbers c.requires c.low8.ensures c.from_number.ensures c.in-Known.is in
-    let e = reason-by c.args.numbers c.requires c.low16.ensures c.from_number-2.ensures c.in-Known-from_number.is in
-    ap Some c.receipt_with.ensures ∙ whole c.args.numbers d e
+    ap Some c.receipt_with.ensures
+    ∙ whole c.args.numbers (rw c.in-Ok.is at c.try_from.ensures) (rw c.in-Ok-try_from.is at c.try_from-2.ensures)

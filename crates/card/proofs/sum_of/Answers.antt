@@ -1,18 +1,13 @@
-use borrow.Author.Rules.{rules}
+use mathlib.Core.Path.{◌≡◌, refl, ◌∙◌}
 use native.Mathlib.Omega.{arith}
-use Rattle.card.proofs.Steps.{sum-at, sum-end}
+use Rattle.std.proofs.lemmas.Grind.{common_steps}
+use Rattle.std.proofs.lemmas.List.Recursion.{is_sum_by}
+use Rattle.card.specs.Card.{sum}
 use Rattle.card.proofs.sum_of.Goals as goal
 
-pub overflow_cast-sum : goal.overflow_cast-sum
-overflow_cast-sum c = omega (arith, c.shared_slice_known-1.given c.loop-i.i)
-
-pub overflow_add-sum : goal.overflow_add-sum
-overflow_add-sum c = omega (arith, c.shared_slice_known-1.given c.loop-i.i)
-
-pub loop-i-preserved : goal.loop-i-preserved
-loop-i-preserved c =
-    let l = c.loop-i in
-    omega (arith, c.shared_slice_known-1.given l.i, sum-at c.args.bytes.now l.i (search rules))
-
-pub returns : goal.returns
-returns c = let e = sum-end c.args.bytes.now c.loop-i.i (search rules) in record { value = omega (arith, e); upper_bound = search rules }
+pub returns-clause-value : goal.returns-clause-value
+unfolding sum
+returns-clause-value c =
+    let e = is_sum_by sum (λ x. x) refl (λ _ _. refl) c.args.bytes.now in
+    let v : c.sum-sum.result ≡ sum c.args.bytes.now = grind (arith, common_steps, e) in
+    c.from.ensures ∙ v
