@@ -1,7 +1,5 @@
 -- What a host is shown, as equations, and what it says in the rules' words: what is absent is blank.
 use Rattle.std.specs.Prelude.{ℕ, Bool, true, false, cond, List, [], ◌∷◌, ◌≡◌, ltb, ℤ, pos, Option, Some, None}
-use Rattle.std.specs.Prelude.{Some, None}
-use Rattle.std.proofs.Math.Option as maybe
 use Rattle.model.specs.declared.Capability.{Capability}
 use Rattle.model.specs.declared.Config.{Config}
 use Rattle.model.specs.declared.Lease.{Lease}
@@ -94,11 +92,11 @@ abbrev pub snapshot_at : Bool → Fixed → Numbers → ℕ → SnapshotShown
 snapshot_at there f n retained = record { runtime = presence_of there; snapshot = cond there (snapshot_of f n retained) no_snapshot }
 
 -- a slot of what may be missing: an absent one holds a blank lease
-unfoldable pub slot_with : maybe.Option Lease → LeaseSlot
+unfoldable pub slot_with : Option Lease → LeaseSlot
 slot_with None = no_lease
 slot_with (Some l) = record { presence = Present; lease = l }
 
-abbrev pub lease_shown_at : Bool → maybe.Option Lease → LeaseShown
+abbrev pub lease_shown_at : Bool → Option Lease → LeaseShown
 lease_shown_at there l = record { runtime = presence_of there; slot = cond there (slot_with l) no_lease }
 
 abbrev pub place_or16 : ℕ → ℕ → ℕ
@@ -144,7 +142,7 @@ abbrev shown_if : Presence → Value → Output
 shown_if Absent v = NoRuntime
 shown_if Present v = Shows v
 
-abbrev value_if : {A : Type 0} → Presence → A → maybe.Option A
+abbrev value_if : {A : Type 0} → Presence → A → Option A
 value_if Absent x = None
 value_if Present x = Some x
 
@@ -179,7 +177,7 @@ item_with kind axis reason capability parameters receipt =
     record { kind = kind; axis = axis; reason = reason; capability = capability; parameters = parameters; receipt = receipt }
 
 -- an item of the rules, or none, with blanks for what it has not
-unfoldable pub shown_item : maybe.Option Protocol.Item → ItemShown
+unfoldable pub shown_item : Option Protocol.Item → ItemShown
 shown_item None = item_with ItemKind.Nothing 0 Ok 0 no_parameters no_receipt
 shown_item (Some (ItemObserve axis)) = item_with ItemKind.Observe axis Ok 0 no_parameters no_receipt
 shown_item (Some (ItemExecute c ps)) = item_with ItemKind.Execute 0 Ok c ps no_receipt

@@ -354,7 +354,7 @@ pub extern "C" fn lap_others(laps: u64) -> u64 {
         item.receipt.receipt_id,
         lease.id,
         receipt.receipt_id,
-        reason.number() as u64,
+        u64::from(u16::from(reason)),
         mode,
         epoch.number,
         boot_id.number,

@@ -10,26 +10,22 @@ use lib.Dec.{eqb}
 use lib.ListN.{length}
 use Rattle.model.specs.declared.Reason.{Reason}
 use Rattle.model.specs.declared.Reason.TheVariants.{Ok, Bound, Stale, Authority, Duplicate, Precondition, OldSequence, Epoch, UnknownCapability, TooEarly, Invalid, Estop, Faulted, Watchdog, LeaseExpired, StreamExpired, Driver, Verification, Clock, Busy, Canceled, InvalidStorm, StateStale, BootMismatch, LeaseGranted, LeaseRenewed, Recovered, Startup}
-use Rattle.model.specs.declared.Numbered.TheVariants.{Known, Unknown}
-use Rattle.model.specs.Reasons.{number, reasons, entry, reason_at}
+use Rattle.std.specs.Prelude.{Some, None, slice_get}
+use Rattle.std.proofs.lemmas.Option.{none-some}
+use Rattle.model.proofs.Options.{some-injective}
+use Rattle.model.specs.Reasons.{number, reasons, reason_at}
 use Rattle.model.proofs.Tests.{and_both}
 
-known-inj : {r s : Reason} → Known r ≡ Known s → r ≡ s
-known-inj e = cc
-
-unknown-known : {r : Reason} → Unknown ≡ Known r → ⊥
-unknown-known e = let z : ◌≡◌ {A = ℕ} 0 1 = cc in omega arith
-
-past_end : (l : List Reason) (n : ℕ) → length l ≤ n → entry l n ≡ Unknown
+past_end : (l : List Reason) (n : ℕ) → length l ≤ n → slice_get l n ≡ None
 past_end [] n h = refl
 past_end (r ∷ l) zero h = absurd (omega arith)
 past_end (r ∷ l) (suc n) h = past_end l n (omega arith)
 
-pub reason-unknown : (n : ℕ) → 28 ≤ n → reason_at n ≡ Unknown
+pub reason-unknown : (n : ℕ) → 28 ≤ n → reason_at n ≡ None
 reason-unknown n h = past_end reasons n h
 
 -- from a reason to its number and back
-pub reason-number : (r : Reason) → reason_at (number r) ≡ Known r
+pub reason-number : (r : Reason) → reason_at (number r) ≡ Some r
 reason-number Ok = refl
 reason-number Bound = refl
 reason-number Stale = refl
@@ -67,17 +63,17 @@ numbered_from k (r ∷ l) = eqb (number r) k && numbered_from (suc k) l
 shift : (k n : ℕ) → suc k + n ≡ k + suc n
 shift k n = omega arith
 
-numbered-at : (k n : ℕ) (l : List Reason) (r : Reason) → numbered_from k l ≡ true → entry l n ≡ Known r → number r ≡ k + n
+numbered-at : (k n : ℕ) (l : List Reason) (r : Reason) → numbered_from k l ≡ true → slice_get l n ≡ Some r → number r ≡ k + n
 unfolding numbered_from
-numbered-at k n [] r t e = absurd (unknown-known e)
+numbered-at k n [] r t e = absurd (none-some _ e)
 numbered-at k zero (x ∷ l) r t e =
     let head = (and_both (eqb (number x) k) (numbered_from (suc k) l) t).0 in
-    sym (ap number (known-inj e)) ∙ eqb-true (number x) k head ∙ sym (add-zero k)
+    sym (ap number (some-injective _ _ e)) ∙ eqb-true (number x) k head ∙ sym (add-zero k)
 numbered-at k (suc n) (x ∷ l) r t e =
     let rest = (and_both (eqb (number x) k) (numbered_from (suc k) l) t).1 in
     numbered-at (suc k) n l r rest e ∙ shift k n
 
 -- from a number to its reason and back
-pub number-reason : (n : ℕ) (r : Reason) → reason_at n ≡ Known r → number r ≡ n
+pub number-reason : (n : ℕ) (r : Reason) → reason_at n ≡ Some r → number r ≡ n
 unfolding numbered_from
 number-reason n r e = numbered-at 0 n reasons r refl e ∙ zero-add n

@@ -1,9 +1,8 @@
 -- The decisions and their numbers (model.rs, `enum Decision`).
-use Rattle.std.specs.Prelude.{ℕ, zero, suc, List, [], ◌∷◌}
+use Rattle.std.specs.Prelude.{ℕ, ◌≡◌, List, [], ◌∷◌, Option, Some, None, Result, MatchResult, slice_get}
 use Rattle.model.specs.declared.Decision.{Decision}
 use Rattle.model.specs.declared.Decision.TheVariants.{Executed, Rejected, Fallback, Control, Failed}
-use Rattle.model.specs.declared.NumberedDecision.{NumberedDecision}
-use Rattle.model.specs.declared.NumberedDecision.TheVariants.{Known, Unknown}
+use Rattle.model.specs.declared.UnknownNumber.{UnknownNumber}
 
 unfoldable pub decision_number : Decision → ℕ
 decision_number Executed = 0
@@ -16,12 +15,10 @@ decision_number Failed = 4
 abbrev pub decisions : List Decision
 decisions = Executed ∷ Rejected ∷ Fallback ∷ Control ∷ Failed ∷ []
 
--- what stands at a place of a list of decisions
-abbrev pub entry : List Decision → ℕ → NumberedDecision
-entry [] n = Unknown
-entry (d ∷ ds) zero = Known d
-entry (d ∷ ds) (suc n) = entry ds n
-
 -- the decision that a number stands for, or none
-unfoldable pub decision_at : ℕ → NumberedDecision
-decision_at n = entry decisions n
+abbrev pub decision_at : ℕ → Option Decision
+decision_at n = slice_get decisions n
+
+-- what is made of a number: its decision, or an error where it has none
+abbrev pub StandsForDecision : ℕ → Result Decision UnknownNumber → Type 0
+StandsForDecision n r = MatchResult r (λ decision. decision_at n ≡ Some decision) (λ _. decision_at n ≡ None)

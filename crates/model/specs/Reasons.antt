@@ -1,9 +1,8 @@
 -- The reasons and their numbers (model.rs, `enum Reason`), and the numbers that the port adds (01, "What the customer meets as a refusal").
-use Rattle.std.specs.Prelude.{ℕ, zero, suc, List, [], ◌∷◌}
+use Rattle.std.specs.Prelude.{ℕ, ◌≡◌, List, [], ◌∷◌, Option, Some, None, Result, MatchResult, slice_get}
 use Rattle.model.specs.declared.Reason.{Reason}
 use Rattle.model.specs.declared.Reason.TheVariants.{Ok, Bound, Stale, Authority, Duplicate, Precondition, OldSequence, Epoch, UnknownCapability, TooEarly, Invalid, Estop, Faulted, Watchdog, LeaseExpired, StreamExpired, Driver, Verification, Clock, Busy, Canceled, InvalidStorm, StateStale, BootMismatch, LeaseGranted, LeaseRenewed, Recovered, Startup}
-use Rattle.model.specs.declared.Numbered.{Numbered}
-use Rattle.model.specs.declared.Numbered.TheVariants.{Known, Unknown}
+use Rattle.model.specs.declared.UnknownNumber.{UnknownNumber}
 
 abbrev pub number : Reason → ℕ
 number Ok = 0
@@ -68,15 +67,13 @@ reasons =
     ∷ Startup
     ∷ []
 
--- what stands at a place of a list of reasons
-abbrev pub entry : List Reason → ℕ → Numbered
-entry [] n = Unknown
-entry (r ∷ rs) zero = Known r
-entry (r ∷ rs) (suc n) = entry rs n
-
 -- the reason that a number stands for, or none
-abbrev pub reason_at : ℕ → Numbered
-reason_at n = entry reasons n
+abbrev pub reason_at : ℕ → Option Reason
+reason_at n = slice_get reasons n
+
+-- what is made of a number: its reason, or an error where it has none
+abbrev pub StandsForReason : ℕ → Result Reason UnknownNumber → Type 0
+StandsForReason n r = MatchResult r (λ reason. reason_at n ≡ Some reason) (λ _. reason_at n ≡ None)
 
 -- boot number 0
 abbrev pub invalid_boot_id : ℕ

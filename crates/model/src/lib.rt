@@ -7,8 +7,8 @@
 ghost use Rattle.std.specs.Prelude.{◌≡◌, ◌&&◌, eqb, drop};
 ghost use Rattle.std.specs.Int.Signed.{le_z};
 ghost use Rattle.std.specs.Int.Bits.{bit_and};
-ghost use Rattle.model.specs.Reasons.{number, reason_at};
-ghost use Rattle.model.specs.Decisions.{decision_number, decision_at};
+ghost use Rattle.model.specs.Reasons.{number, StandsForReason};
+ghost use Rattle.model.specs.Decisions.{decision_number, StandsForDecision};
 ghost use Rattle.model.specs.Records.{default_config, no_lease, no_capability, no_active, no_replay, no_receipt};
 ghost use Rattle.model.specs.Lists.{all};
 ghost use Rattle.model.specs.Bounds.{ordered, is_zero};
@@ -32,8 +32,8 @@ pub struct Bounds {
 
 impl Bounds {
     pub const ANY: Self = Self {
-        min: -2147483648,
-        max: 2147483647,
+        min: i32::MIN,
+        max: i32::MAX,
     };
 
     pub const ZERO: Self = Self { min: 0, max: 0 };
@@ -62,34 +62,24 @@ impl Bounds {
 pub fn all_ordered(bounds: [Bounds; 2]) -> bool
     ensures { result ≡ all ordered bounds }
 {
-    let first = bounds[0];
-    let second = bounds[1];
-    first.is_ordered() && second.is_ordered()
+    bounds.iter().all(|b| b.is_ordered())
 }
 
 // The bounds past the count are zero.
 fn zero_past(bounds: [Bounds; 2], count: u8) -> bool
     ensures { result ≡ all is_zero (drop count bounds) }
 {
-    let mut i = count;
-    while i < 2 {
-        let b = bounds[i as usize];
-        if !b.is_zero() {
-            return false;
-        }
-        i += 1;
-    }
-    true
+    bounds.iter().skip(count as usize).all(|b| b.is_zero())
 }
 
-#[derive(Clone, Copy)]
+#[derive(Clone, Copy, Debug, PartialEq, Eq)]
 pub enum ExecutionClass {
     Stream,
     Discrete,
     Control,
 }
 
-#[derive(Clone, Copy)]
+#[derive(Clone, Copy, Debug, PartialEq, Eq)]
 pub enum Verification {
     // The observation must equal the requested parameters.
     Parameters,
@@ -217,121 +207,86 @@ pub struct Lease {
     pub last_renewal: u64,
 }
 
-#[derive(Clone, Copy)]
+#[derive(Clone, Copy, Debug, PartialEq, Eq)]
 pub enum Reason {
-    Ok,
-    Bound,
-    Stale,
-    Authority,
-    Duplicate,
-    Precondition,
-    OldSequence,
-    Epoch,
-    UnknownCapability,
-    TooEarly,
-    Invalid,
-    Estop,
-    Faulted,
-    Watchdog,
-    LeaseExpired,
-    StreamExpired,
-    Driver,
-    Verification,
-    Clock,
-    Busy,
-    Canceled,
-    InvalidStorm,
-    StateStale,
-    BootMismatch,
-    LeaseGranted,
-    LeaseRenewed,
-    Recovered,
-    Startup,
+    Ok = 0,
+    Bound = 1,
+    Stale = 2,
+    Authority = 3,
+    Duplicate = 4,
+    Precondition = 5,
+    OldSequence = 6,
+    Epoch = 7,
+    UnknownCapability = 8,
+    TooEarly = 9,
+    Invalid = 10,
+    Estop = 11,
+    Faulted = 12,
+    Watchdog = 13,
+    LeaseExpired = 14,
+    StreamExpired = 15,
+    Driver = 16,
+    Verification = 17,
+    Clock = 18,
+    Busy = 19,
+    Canceled = 20,
+    InvalidStorm = 21,
+    StateStale = 22,
+    BootMismatch = 23,
+    LeaseGranted = 24,
+    LeaseRenewed = 25,
+    Recovered = 26,
+    Startup = 27,
 }
 
-// What a number stands for: a reason, or none.
-#[derive(Clone, Copy)]
-pub enum Numbered {
-    Known(Reason),
-    Unknown,
-}
+// A number that stands for nothing.
+#[derive(Clone, Copy, Debug, PartialEq, Eq)]
+pub struct UnknownNumber;
 
-// What a number stands for: a decision, or none.
-#[derive(Clone, Copy)]
-pub enum NumberedDecision {
-    Known(Decision),
-    Unknown,
-}
+impl From<Reason> for u16 {
+    ghost from_gives = { λ reason n. n ≡ number reason };
 
-impl Reason {
-    pub fn number(self) -> u16
-        ensures { result ≡ number self }
-    {
-        match self {
-            Reason::Ok => 0,
-            Reason::Bound => 1,
-            Reason::Stale => 2,
-            Reason::Authority => 3,
-            Reason::Duplicate => 4,
-            Reason::Precondition => 5,
-            Reason::OldSequence => 6,
-            Reason::Epoch => 7,
-            Reason::UnknownCapability => 8,
-            Reason::TooEarly => 9,
-            Reason::Invalid => 10,
-            Reason::Estop => 11,
-            Reason::Faulted => 12,
-            Reason::Watchdog => 13,
-            Reason::LeaseExpired => 14,
-            Reason::StreamExpired => 15,
-            Reason::Driver => 16,
-            Reason::Verification => 17,
-            Reason::Clock => 18,
-            Reason::Busy => 19,
-            Reason::Canceled => 20,
-            Reason::InvalidStorm => 21,
-            Reason::StateStale => 22,
-            Reason::BootMismatch => 23,
-            Reason::LeaseGranted => 24,
-            Reason::LeaseRenewed => 25,
-            Reason::Recovered => 26,
-            Reason::Startup => 27,
-        }
+    fn from(reason: Reason) -> u16 {
+        reason as u16
     }
+}
 
-    pub fn from_number(n: u16) -> Numbered
-        ensures { result ≡ reason_at n }
-    {
+impl TryFrom<u16> for Reason {
+    type Error = UnknownNumber;
+
+    ghost try_from_gives = { StandsForReason };
+
+    fn try_from(n: u16) -> Result<Self, UnknownNumber> {
         match n {
-            0 => Numbered::Known(Reason::Ok),
-            1 => Numbered::Known(Reason::Bound),
-            2 => Numbered::Known(Reason::Stale),
-            3 => Numbered::Known(Reason::Authority),
-            4 => Numbered::Known(Reason::Duplicate),
-            5 => Numbered::Known(Reason::Precondition),
-            6 => Numbered::Known(Reason::OldSequence),
-            7 => Numbered::Known(Reason::Epoch),
-            8 => Numbered::Known(Reason::UnknownCapability),
-            9 => Numbered::Known(Reason::TooEarly),
-            10 => Numbered::Known(Reason::Invalid),
-            11 => Numbered::Known(Reason::Estop),
-            12 => Numbered::Known(Reason::Faulted),
-            13 => Numbered::Known(Reason::Watchdog),
-            14 => Numbered::Known(Reason::LeaseExpired),
-            15 => Numbered::Known(Reason::StreamExpired),
-            16 => Numbered::Known(Reason::Driver),
-            17 => Numbered::Known(Reason::Verification),
-            18 => Numbered::Known(Reason::Clock),
-            19 => Numbered::Known(Reason::Busy),
-            20 => Numbered::Known(Reason::Canceled),
-            21 => Numbered::Known(Reason::InvalidStorm),
-            22 => Numbered::Known(Reason::StateStale),
-            23 => Numbered::Known(Reason::BootMismatch),
-            24 => Numbered::Known(Reason::LeaseGranted),
-            25 => Numbered::Known(Reason::LeaseRenewed),
-            26 => Numbered::Known(Reason::Recovered),
-            27 => Numbered::Known(Reason::Startup),
-            28..=65535 => Numbered::Unknown,
+            0 => Ok(Reason::Ok),
+            1 => Ok(Reason::Bound),
+            2 => Ok(Reason::Stale),
+            3 => Ok(Reason::Authority),
+            4 => Ok(Reason::Duplicate),
+            5 => Ok(Reason::Precondition),
+            6 => Ok(Reason::OldSequence),
+            7 => Ok(Reason::Epoch),
+            8 => Ok(Reason::UnknownCapability),
+            9 => Ok(Reason::TooEarly),
+            10 => Ok(Reason::Invalid),
+            11 => Ok(Reason::Estop),
+            12 => Ok(Reason::Faulted),
+            13 => Ok(Reason::Watchdog),
+            14 => Ok(Reason::LeaseExpired),
+            15 => Ok(Reason::StreamExpired),
+            16 => Ok(Reason::Driver),
+            17 => Ok(Reason::Verification),
+            18 => Ok(Reason::Clock),
+            19 => Ok(Reason::Busy),
+            20 => Ok(Reason::Canceled),
+            21 => Ok(Reason::InvalidStorm),
+            22 => Ok(Reason::StateStale),
+            23 => Ok(Reason::BootMismatch),
+            24 => Ok(Reason::LeaseGranted),
+            25 => Ok(Reason::LeaseRenewed),
+            26 => Ok(Reason::Recovered),
+            27 => Ok(Reason::Startup),
+            28.. => Err(UnknownNumber),
         }
     }
 }
@@ -354,45 +309,42 @@ pub const NO_REPLY_AWAITED: u16 = 112;
 
 pub const OTHER_REPLY_AWAITED: u16 = 113;
 
-#[derive(Clone, Copy)]
+#[derive(Clone, Copy, Debug, PartialEq, Eq)]
 pub enum Decision {
-    Executed,
-    Rejected,
-    Fallback,
-    Control,
-    Failed,
+    Executed = 0,
+    Rejected = 1,
+    Fallback = 2,
+    Control = 3,
+    Failed = 4,
 }
 
-impl Decision {
+impl From<Decision> for u8 {
+    ghost from_gives = { λ decision n. n ≡ decision_number decision };
+
     #[tactic(auto, unfolding(crate::specs::Decisions::decision_number))]
-    pub fn number(self) -> u8
-        ensures { result ≡ decision_number self }
-    {
-        match self {
-            Decision::Executed => 0,
-            Decision::Rejected => 1,
-            Decision::Fallback => 2,
-            Decision::Control => 3,
-            Decision::Failed => 4,
-        }
+    fn from(decision: Decision) -> u8 {
+        decision as u8
     }
+}
 
-    #[tactic(auto, unfolding(crate::specs::Decisions::decision_at))]
-    pub fn from_number(n: u8) -> NumberedDecision
-        ensures { result ≡ decision_at n }
-    {
+impl TryFrom<u8> for Decision {
+    type Error = UnknownNumber;
+
+    ghost try_from_gives = { StandsForDecision };
+
+    fn try_from(n: u8) -> Result<Self, UnknownNumber> {
         match n {
-            0 => NumberedDecision::Known(Decision::Executed),
-            1 => NumberedDecision::Known(Decision::Rejected),
-            2 => NumberedDecision::Known(Decision::Fallback),
-            3 => NumberedDecision::Known(Decision::Control),
-            4 => NumberedDecision::Known(Decision::Failed),
-            5..=255 => NumberedDecision::Unknown,
+            0 => Ok(Decision::Executed),
+            1 => Ok(Decision::Rejected),
+            2 => Ok(Decision::Fallback),
+            3 => Ok(Decision::Control),
+            4 => Ok(Decision::Failed),
+            5.. => Err(UnknownNumber),
         }
     }
 }
 
-#[derive(Clone, Copy)]
+#[derive(Clone, Copy, Debug, PartialEq, Eq)]
 pub enum RuntimeState {
     SafeIdle,
     Armed,
@@ -457,10 +409,10 @@ pub struct Config {
     pub estop_mask: u32,
 }
 
-impl Config {
-    pub fn default() -> Self
-        ensures { result ≡ default_config }
-    {
+impl Default for Config {
+    ghost is_default = { λ config. config ≡ default_config };
+
+    fn default() -> Self {
         Self {
             watchdog_ms: 50,
             state_ttl_ms: 250,
@@ -488,7 +440,7 @@ pub struct Replay {
 }
 
 // The Rust's `Option` in an array is a slot: an absent one holds a fixed blank, so that equal contents are equal values.
-#[derive(Clone, Copy)]
+#[derive(Clone, Copy, Debug, PartialEq, Eq)]
 pub enum Presence {
     Absent,
     Present,

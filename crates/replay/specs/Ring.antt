@@ -1,7 +1,5 @@
 -- The ring as a list: the slots from the cursor backwards, around, and the entries that they hold.
 use Rattle.std.specs.Prelude.{ℕ, zero, suc, Bool, false, List, [], ◌∷◌, ◌++◌, reverse, take, drop, Option, Some, None}
-use Rattle.std.specs.Prelude.{Some, None}
-use Rattle.std.proofs.Math.Option as maybe
 use Rattle.model.specs.declared.Presence.TheVariants.{Absent, Present}
 use Rattle.model.specs.declared.Presence.{Presence}
 use Rattle.model.specs.declared.Replay.{Replay}
@@ -50,6 +48,6 @@ abbrev pub is_hit : ℕ → ℕ → ReplaySlot → Bool
 is_hit owner action s = hit_in owner action s.presence s.replay
 
 -- what a search answers: the receipt number of the entry found
-abbrev pub receipt_of : maybe.Option Replay → Option ℕ
+abbrev pub receipt_of : Option Replay → Option ℕ
 receipt_of None = None
 receipt_of (Some e) = Some e.receipt

@@ -3,17 +3,13 @@ use Prim.Native.Nat.{ℕ, zero, suc, ◌+◌, ◌<◌, ◌≤◌}
 use mathlib.Core.Bool.{Bool, true, false, cond, false≢true}
 use mathlib.Core.List.{List, [], ◌∷◌}
 use mathlib.Core.Logic.{⊎_elim}
-use Rattle.std.specs.Prelude.{Option, Some, None}
+use Rattle.std.specs.Prelude.{Option, Some, None, slice_get}
 use mathlib.Core.Path.{◌≡◌, refl, sym, ap, ap₂, ◌∙◌, subst}
 use borrow.Author.Tests.{lt-ltb, le-ltb}
 use native.Mathlib.Omega.{arith}
 use lib.Dec.{ltb}
 use lib.ListN.{length, get_or, take, length-map, get_or-eq_default}
-use Rattle.std.specs.Prelude.{slice_get}
 use lib.Seq.{get_or-take, length-take-le}
-use Rattle.std.specs.List.{slice_get}
-use Rattle.std.specs.Prelude.{Some, None}
-use Rattle.std.specs.Prelude as Prelude
 use Rattle.model.specs.declared.Capability.{Capability}
 use Rattle.model.specs.declared.Lease.{Lease}
 use Rattle.model.specs.declared.Presence.{Presence}
@@ -306,16 +302,6 @@ receipt-there : (t : Bool) (slot : ℕ) (r : Receipt) → (receipt_at t slot r).
 receipt-there true slot r e = receipt-there-if (ltb slot 64) r e
 receipt-there false slot r e = refl
 
--- an element of a list, in the rules' words
-abbrev option_of : {A : Type 0} → Prelude.Option A → Option A
-option_of None = None
-option_of (Some x) = Some x
-
-element : {A : Type 0} (xs : List A) (k : ℕ) → slice_get xs k ≡ option_of (slice_get xs k)
-element [] k = refl
-element (x ∷ xs) zero = refl
-element (x ∷ xs) (suc k) = element xs k
-
 module _ (rt : Runtime) (k : Kept rt) (index : ℕ) where
   -- the slot, by where the receipt is noted
   abbrev slot_for : ℕ → ℕ → ℕ
@@ -325,9 +311,9 @@ module _ (rt : Runtime) (k : Kept rt) (index : ℕ) where
   FoundAt s = (s < 65) × (slice_get (receipts_in rt) index ≡ cond (ltb s 64) (Some (get_or rt.slots s no_receipt)) None)
 
   at_slot : (s : ℕ) → s < 64 → slice_get (receipts_in rt) index ≡ Some (get_or (take 64 rt.slots) s no_receipt) → FoundAt s
-  at_slot s l e = (omega (arith, l), element (receipts_in rt) index ∙ ap option_of e ∙ rw (lt-ltb s 64 l, get_or-take 64 rt.slots s no_receipt l))
+  at_slot s l e = (omega (arith, l), e ∙ rw (lt-ltb s 64 l, get_or-take 64 rt.slots s no_receipt l))
 
-  found-slot : (f : Prelude.Option Place) → Points rt.places.index index f → FoundAt (slot_for (rejected_by f) (others_by f))
+  found-slot : (f : Option Place) → Points rt.places.index index f → FoundAt (slot_for (rejected_by f) (others_by f))
   found-slot (Some (Place.Rejected p)) m =
       let st = stores_of rt.places rt.slots in
       let s = k.placed.receipts in
@@ -336,14 +322,14 @@ module _ (rt : Runtime) (k : Kept rt) (index : ℕ) where
       let st = stores_of rt.places rt.slots in
       let s = k.placed.receipts in
       subst FoundAt (get_or-take 64 rt.places.others p 0 m.inside ∙ rw (lt-ltb p 64 m.inside)) (at_slot _ (m.below st s) (m.reads st s))
-  found-slot None m = (omega arith, element (receipts_in rt) index ∙ ap option_of (m.reads (stores_of rt.places rt.slots) k.placed.receipts))
+  found-slot None m = (omega arith, m.reads (stores_of rt.places rt.slots) k.placed.receipts)
 
-  rejected-low : (f : Prelude.Option Place) → Points rt.places.index index f → rejected_by f < 65
+  rejected-low : (f : Option Place) → Points rt.places.index index f → rejected_by f < 65
   rejected-low (Some (Place.Rejected p)) m = omega (arith, m.inside)
   rejected-low (Some (Place.Other p)) m = omega arith
   rejected-low None m = omega arith
 
-  others-low : (f : Prelude.Option Place) → Points rt.places.index index f → others_by f < 65
+  others-low : (f : Option Place) → Points rt.places.index index f → others_by f < 65
   others-low (Some (Place.Rejected p)) m = omega arith
   others-low (Some (Place.Other p)) m = omega (arith, m.inside)
   others-low None m = omega arith

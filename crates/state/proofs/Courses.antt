@@ -15,7 +15,6 @@ use Rattle.rules.specs.With.{with_leases, with_active, with_epoch, with_state}
 use Rattle.state.specs.declared.AfterFallback.TheVariants as AfterFallback
 use Rattle.state.specs.declared.AfterTrip.{AfterTrip}
 use Rattle.state.specs.declared.Answer.{Answer}
-use Rattle.state.specs.declared.Answer.TheVariants as Answer
 use Rattle.state.specs.declared.Course.{Course}
 use Rattle.state.specs.declared.Falling.{Falling}
 use Rattle.state.specs.declared.Fixed.{Fixed}

@@ -6,7 +6,6 @@ use Rattle.rules.specs.Protocol.{Call, Reply, Calls, Replies, Reminds, Refuses, 
 use Rattle.model.specs.Reasons.{reply_awaited, no_reply_awaited}
 use Rattle.state.specs.declared.Answer.TheVariants as Answer
 use Rattle.state.specs.declared.Awaited.{Awaited}
-use Rattle.state.specs.declared.Awaited.TheVariants as Awaited
 use Rattle.state.specs.State.{Asked, Hand, State, book_in, waits, phase_at, phase_of, item_at, output_of, reaction_of}
 
 reminded : (w : Awaited) (h : Hand) (q : Asked) (b : Book) (c : Call) → waits w ≡ true

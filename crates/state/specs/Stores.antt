@@ -11,10 +11,8 @@ use Rattle.rules.specs.Receipts.{top, bump, keep, receipt_capacity}
 use Rattle.rules.specs.Rules.{lease_id, lease_owner}
 use Rattle.state.specs.State.{Tables, Asked, Hand, State, state, book_of, book_in, after_tick, reaction_of, InBounds, Sound}
 use Rattle.state.specs.declared.AfterRecord.{AfterRecord}
-use Rattle.state.specs.declared.AfterRecord.TheVariants as AfterRecord
 use Rattle.state.specs.declared.Answer.{Answer}
 use Rattle.state.specs.declared.Awaited.{Awaited}
-use Rattle.state.specs.declared.Awaited.TheVariants as Awaited
 use Rattle.state.specs.declared.Course.{Course}
 use Rattle.state.specs.declared.Falling.{Falling}
 use Rattle.state.specs.declared.Fixed.{Fixed}

@@ -21,7 +21,7 @@ ghost use Rattle.state.specs.Stores.{course_of, without, soonest_with, Settles, 
 use model::{Config, Decision, LeaseSlot, Presence, Reason, Receipt, RuntimeState, Submission};
 
 // The call in hand.
-#[derive(Clone, Copy)]
+#[derive(Clone, Copy, Debug, PartialEq, Eq)]
 pub enum CallKind {
     Tick,
     UpdateState,
@@ -44,7 +44,7 @@ pub struct Pending {
 
 // What follows the fallback in hand: the next axis of a trip, of the expiries, of the flags' preconditions or of a recovery; or the end of
 // a cancel.
-#[derive(Clone, Copy)]
+#[derive(Clone, Copy, Debug, PartialEq, Eq)]
 pub enum AfterFallback {
     Trip,
     Expiry,
@@ -55,7 +55,7 @@ pub enum AfterFallback {
 
 // What follows the trip in hand: what the opening tick goes on with (`Tick`, after its two returns), the rest of the tick after its
 // watchdog, staleness or an expiry; the rest of the preconditions; or an answer.
-#[derive(Clone, Copy)]
+#[derive(Clone, Copy, Debug, PartialEq, Eq)]
 pub enum AfterTrip {
     Tick,
     Watchdog,
@@ -100,7 +100,7 @@ pub struct Carrying {
 }
 
 // What follows the receipt in hand.
-#[derive(Clone, Copy)]
+#[derive(Clone, Copy, Debug, PartialEq, Eq)]
 pub enum AfterRecord {
     Fallback,
     Lease,
@@ -110,7 +110,7 @@ pub enum AfterRecord {
 }
 
 // Which reply is awaited.
-#[derive(Clone, Copy)]
+#[derive(Clone, Copy, Debug, PartialEq, Eq)]
 pub enum Awaited {
     Nothing,
     ObserveBefore,
@@ -174,7 +174,7 @@ pub struct Why {
 
 // What a start, a call or a reply gives: its answer, the next item (`Item`), or a refusal: 111, 113, 112, or that there is no runtime. A lease, a
 // receipt and a refusal's reason stand in the state. Then that a start is over, and the five ways in which it is refused: 101 to 105.
-#[derive(Clone, Copy)]
+#[derive(Clone, Copy, Debug, PartialEq, Eq)]
 pub enum Answer {
     Returned,
     Unraised,
@@ -197,7 +197,7 @@ pub enum Answer {
 }
 
 // Where a call goes: to the fallback of an axis, to its answer, or on to what follows its opening tick.
-#[derive(Clone, Copy)]
+#[derive(Clone, Copy, Debug, PartialEq, Eq)]
 pub enum Way {
     Falls,
     Ends,
@@ -221,21 +221,18 @@ pub struct Course {
 }
 
 // One more, held at the top.
+#[tactic(auto, unfolding(rules::specs::Receipts::bump, rules::specs::Receipts::bump_to))]
 pub fn bump_counter(n: u64) -> u64
     ensures { result ≡ bump n }
 {
-    if n < 0xffff_ffff_ffff_ffff { n + 1 } else { n }
+    n.saturating_add(1)
 }
 
+#[tactic(auto, unfolding(rules::specs::Admission::is_armed))]
 pub fn is_armed(state: RuntimeState) -> bool
     ensures { result ≡ is_armed state }
 {
-    match state {
-        RuntimeState::SafeIdle => false,
-        RuntimeState::Armed => true,
-        RuntimeState::Faulted => false,
-        RuntimeState::Estopped => false,
-    }
+    state == RuntimeState::Armed
 }
 
 // The state's age, 0 where the stamp is later, is at or over the limit.
@@ -261,22 +258,14 @@ pub fn is_exhausted(numbers: Numbers) -> bool
 pub fn sooner(a: u64, b: u64) -> u64
     ensures { result ≡ min a b }
 {
-    if a < b { a } else { b }
+    a.min(b)
 }
 
 // A reply is awaited.
 pub fn is_waiting(waiting: Waiting) -> bool
     ensures { result ≡ waits waiting.awaited }
 {
-    let awaited = waiting.awaited;
-    match awaited {
-        Awaited::Nothing => false,
-        Awaited::ObserveBefore => true,
-        Awaited::Execute => true,
-        Awaited::ObserveAfter => true,
-        Awaited::Fallback => true,
-        Awaited::Record => true,
-    }
+    waiting.awaited != Awaited::Nothing
 }
 
 // What a fallback's receipt says of the lease that the axis had.
@@ -313,13 +302,14 @@ pub fn is_leased(slot: LeaseSlot) -> bool
 }
 
 // How many leases stand without the one of this slot.
+#[tactic(auto, unfolding(crate::specs::Stores::without))]
 pub fn held_without(slot: LeaseSlot, held: u8) -> u8
     ensures { result ≡ without (lease_in slot) held }
 {
     let presence = slot.presence;
     match presence {
         Presence::Absent => held,
-        Presence::Present => if held > 0 { held - 1 } else { 0 },
+        Presence::Present => held.saturating_sub(1),
     }
 }
 
@@ -335,16 +325,11 @@ pub fn soonest_with(held: u8, soonest: u64) -> u64
 
 // record, event, refresh_state, trip -------------------------------------------------------------------------------------
 
+#[tactic(auto, unfolding(rules::specs::Receipts::is_fallback))]
 pub fn is_fallback(decision: Decision) -> bool
     ensures { result ≡ is_fallback decision }
 {
-    match decision {
-        Decision::Executed => false,
-        Decision::Rejected => false,
-        Decision::Fallback => true,
-        Decision::Control => false,
-        Decision::Failed => false,
-    }
+    decision == Decision::Fallback
 }
 
 // The receipt of a fallback, a grant or a renewal, with its number.
@@ -460,24 +445,24 @@ fn armed_if(leased: bool) -> RuntimeState
 }
 
 // The state with or without leases: Armed if any stands, else SafeIdle, unless Faulted or Estopped.
+#[tactic(auto, unfolding(rules::specs::Rules::refreshed))]
 pub fn refreshed(leased: bool, state: RuntimeState) -> RuntimeState
     ensures { result ≡ refreshed_state leased state }
 {
     match state {
-        RuntimeState::SafeIdle => armed_if(leased),
-        RuntimeState::Armed => armed_if(leased),
-        RuntimeState::Faulted => RuntimeState::Faulted,
-        RuntimeState::Estopped => RuntimeState::Estopped,
+        RuntimeState::SafeIdle | RuntimeState::Armed => armed_if(leased),
+        RuntimeState::Faulted | RuntimeState::Estopped => state,
     }
 }
 
 fn is_estop(reason: Reason) -> bool
     ensures { result ≡ eqb (number reason) (number Estop) }
 {
-    reason.number() == 11
+    reason == Reason::Estop
 }
 
 // The state of a trip: Estopped if the reason is Estop or it already was, else Faulted.
+#[tactic(auto, unfolding(rules::specs::Rules::tripped, rules::specs::Admission::is_estopped))]
 fn tripped(reason: Reason, state: RuntimeState) -> RuntimeState
     ensures { result ≡ tripped_state reason state }
 {
@@ -485,10 +470,8 @@ fn tripped(reason: Reason, state: RuntimeState) -> RuntimeState
         return RuntimeState::Estopped;
     }
     match state {
-        RuntimeState::SafeIdle => RuntimeState::Faulted,
-        RuntimeState::Armed => RuntimeState::Faulted,
-        RuntimeState::Faulted => RuntimeState::Faulted,
-        RuntimeState::Estopped => RuntimeState::Estopped,
+        RuntimeState::Estopped => state,
+        _ => RuntimeState::Faulted,
     }
 }
 
@@ -497,12 +480,10 @@ pub fn first_used(used: [bool; 8], from: u8) -> u8
     requires { from ≤ 8 }
     ensures { result ≡ first_used used from }
 {
-    let mut i = from;
-    while i < 8 {
-        if used[i as usize] {
-            return i;
+    for axis in from..8 {
+        if used[axis as usize] {
+            return axis;
         }
-        i += 1;
     }
     8
 }

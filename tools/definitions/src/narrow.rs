@@ -84,7 +84,7 @@ impl<'a> Narrowing<'a> {
             format!("the Rust: {}", cut(expected)),
         ];
         let computed = format!("nth {place} ({outputs})");
-        self.with_word(lines, &computed, &format!("some ({expected})"))
+        self.with_word(lines, &computed, &format!("Some ({expected})"))
     }
 
     fn book_lines(&mut self) -> io::Result<Vec<String>> {
@@ -94,7 +94,7 @@ impl<'a> Narrowing<'a> {
         let lines = vec![format!("the book differs after output {}", seen.place)];
         let fields = seen.book.iter().flatten();
         let fact = |(field, term): &(&str, String)| {
-            proved(field, &self.part(seen, field), &format!("some ({term})"))
+            proved(field, &self.part(seen, field), &format!("Some ({term})"))
         };
         let facts: String = fields.clone().map(fact).collect();
         let verdict = self.check(&facts)?;
@@ -105,7 +105,7 @@ impl<'a> Narrowing<'a> {
         let mut lines = lines;
         lines.push(format!("the field: {field}"));
         lines.push(format!("the Rust: {}", cut(term)));
-        self.with_word(lines, &self.part(seen, field), &format!("some ({term})"))
+        self.with_word(lines, &self.part(seen, field), &format!("Some ({term})"))
     }
 
     /// The first book that differs.

@@ -17,7 +17,7 @@ const FACTS_IN_A_FILE: usize = 20;
 /// What a file of facts brings in besides the shared file.
 const USES: &str = "\
 use Rattle.std.specs.Prelude.{true, false, List, [], ◌∷◌, map, take, ◌≡◌, refl, pos, negsuc}
-use Rattle.std.proofs.Math.Option.{Option, some, none}
+use Rattle.std.specs.Prelude.{Option, Some, None}
 use Rattle.model.specs.declared.Decision.TheVariants as Decision
 use Rattle.model.specs.declared.ExecutionClass.TheVariants as Class
 use Rattle.model.specs.declared.Reason.TheVariants as Reason
@@ -37,7 +37,7 @@ use Rattle.rules.specs.Lives.{Life, outputs}
 const SHARED_USES: &str = "\
 -- What the facts share.
 use Rattle.std.specs.Prelude.{ℕ, zero, suc, List, [], ◌∷◌, ◌++◌, pos, negsuc}
-use Rattle.std.proofs.Math.Option.{Option, some, none}
+use Rattle.std.specs.Prelude.{Option, Some, None}
 use Rattle.model.specs.declared.Capability.{Capability}
 use Rattle.model.specs.declared.Config.{Config}
 use Rattle.model.specs.declared.ExecutionClass.TheVariants as Class
@@ -85,19 +85,19 @@ phases l rest =
 
 -- the book at a place of these
 unfoldable pub book_at : List Phase → ℕ → Option Book
-book_at [] n = none
+book_at [] n = None
 book_at (p ∷ ps) zero = book_in p
 book_at (p ∷ ps) (suc n) = book_at ps n
 
 -- parts of it, for a life that is looked into
 unfoldable pub nth : ℕ → List Output → Option Output
-nth n [] = none
-nth zero (o ∷ os) = some o
+nth n [] = None
+nth zero (o ∷ os) = Some o
 nth (suc n) (o ∷ os) = nth n os
 
 unfoldable pub part : {A : Type 0} → (Book → A) → Option Book → Option A
-part f none = none
-part f (some b) = some (f b)
+part f None = None
+part f (Some b) = Some (f b)
 
 ";
 
@@ -234,7 +234,7 @@ fn statements(fact: &Fact) -> String {
 /// The book as the Rust has it.
 pub fn book_term(seen: &Seen) -> String {
     let book = seen.book.clone();
-    book.map_or("none".into(), |b| format!("some ({})", text::record(b)))
+    book.map_or("None".into(), |b| format!("Some ({})", text::record(b)))
 }
 
 /// A fact that the prover computes.

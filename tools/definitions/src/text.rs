@@ -33,7 +33,7 @@ pub fn list(terms: impl IntoIterator<Item = String>) -> String {
 }
 
 fn option<T>(value: Option<T>, term: impl Fn(&T) -> String) -> String {
-    value.map_or("none".into(), |v| format!("some ({})", term(&v)))
+    value.map_or("None".into(), |v| format!("Some ({})", term(&v)))
 }
 
 /// As an argument: a term of several words stands in parentheses.

@@ -117,7 +117,7 @@ fn inputs() {
         (Reply::Observed(None), "Replies (Observed none)"),
         (
             Reply::Observed(Some(seen)),
-            "Replies (Observed (some (record { parameters = negsuc 0 ∷ pos 2 ∷ []; state = 3 })))",
+            "Replies (Observed (Some (record { parameters = negsuc 0 ∷ pos 2 ∷ []; state = 3 })))",
         ),
         (Reply::Executed(false), "Replies (Executed false)"),
         (Reply::FellBack(true), "Replies (FellBack true)"),
@@ -163,7 +163,7 @@ fn outputs() {
         ),
         (
             Output::Shows(Value::Lease(None)),
-            "Shows (OfLease none)".into(),
+            "Shows (OfLease None)".into(),
         ),
     ];
     for (value, term) in cases {

@@ -1,6 +1,5 @@
 use Rattle.rules.specs.Receipts.{event, numbered}
 use Rattle.state.specs.State.{book_of}
-use borrow.Author.Rules.{rules}
 use Rattle.state.proofs.event_receipt.Goals as goal
 
 pub returns : goal.returns

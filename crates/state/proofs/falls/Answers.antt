@@ -1,5 +1,4 @@
 use Rattle.state.proofs.Courses.{falls-so}
-use borrow.Author.Rules.{rules}
 use Rattle.state.proofs.falls.Goals as goal
 
 pub returns : goal.returns

@@ -1,5 +1,4 @@
 use Rattle.state.proofs.Courses.{goes-on-so}
-use borrow.Author.Rules.{rules}
 use Rattle.state.proofs.goes_on.Goals as goal
 
 pub returns : goal.returns

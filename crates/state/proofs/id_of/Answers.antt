@@ -1,5 +1,4 @@
 use Rattle.rules.specs.Rules.{lease_id}
-use borrow.Author.Rules.{rules}
 use Rattle.state.proofs.id_of.Goals as goal
 
 pub returns-in-Absent : goal.returns-in-Absent

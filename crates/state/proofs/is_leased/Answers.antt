@@ -1,5 +1,4 @@
 use Rattle.rules.specs.Admission.{is_some}
-use borrow.Author.Rules.{rules}
 use Rattle.state.proofs.is_leased.Goals as goal
 
 pub returns-in-Absent : goal.returns-in-Absent

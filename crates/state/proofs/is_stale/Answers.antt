@@ -5,7 +5,6 @@ use native.Mathlib.Omega.{arith}
 use lib.Dec.{eqb, leb}
 use Rattle.rules.specs.Admission.{is_stale}
 use Rattle.state.specs.State.{book_of}
-use borrow.Author.Rules.{rules}
 use Rattle.state.proofs.is_stale.Goals as goal
 
 none_left : (n : ℕ) → eqb n 0 ≡ leb n 0

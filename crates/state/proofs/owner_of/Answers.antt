@@ -1,5 +1,4 @@
 use Rattle.rules.specs.Rules.{lease_owner}
-use borrow.Author.Rules.{rules}
 use Rattle.state.proofs.owner_of.Goals as goal
 
 pub returns-in-Absent : goal.returns-in-Absent

@@ -1,5 +1,4 @@
 use Rattle.state.proofs.Courses.{raises-so}
-use borrow.Author.Rules.{rules}
 use Rattle.state.proofs.raised.Goals as goal
 
 pub returns : goal.returns

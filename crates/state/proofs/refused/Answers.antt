@@ -1,5 +1,4 @@
 use Rattle.state.proofs.Courses.{refuses-so}
-use borrow.Author.Rules.{rules}
 use Rattle.state.proofs.refused.Goals as goal
 
 pub returns : goal.returns

@@ -1,5 +1,4 @@
 use Rattle.state.proofs.Courses.{returns-so}
-use borrow.Author.Rules.{rules}
 use Rattle.state.proofs.returned.Goals as goal
 
 pub returns : goal.returns

@@ -1,5 +1,4 @@
 use Rattle.state.proofs.Courses.{submits-so}
-use borrow.Author.Rules.{rules}
 use Rattle.state.proofs.submitted.Goals as goal
 
 pub returns : goal.returns

@@ -1,5 +1,4 @@
 use Rattle.state.proofs.Courses.{succeeds-so}
-use borrow.Author.Rules.{rules}
 use Rattle.state.proofs.succeeded.Goals as goal
 
 pub returns : goal.returns

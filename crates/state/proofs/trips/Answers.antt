@@ -1,5 +1,4 @@
 use Rattle.state.proofs.Courses.{trips-so}
-use borrow.Author.Rules.{rules}
 use Rattle.state.proofs.trips.Goals as goal
 
 pub returns : goal.returns
