@@ -114,7 +114,7 @@ fn inputs() {
         state: 3,
     };
     let replies = [
-        (Reply::Observed(None), "Replies (Observed none)"),
+        (Reply::Observed(None), "Replies (Observed None)"),
         (
             Reply::Observed(Some(seen)),
             "Replies (Observed (Some (record { parameters = negsuc 0 ∷ pos 2 ∷ []; state = 3 })))",
