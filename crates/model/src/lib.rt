@@ -1,7 +1,7 @@
 // The records, enums and numbers of the stage runtime, from model.rs, and the four records of the reference profile (profile.rs).
 // Promises: a bound contains what lies from its minimum to its maximum; a capability permits the flags that meet both its words; a
 // reason and its number determine each other, and so do a decision and its number; a record is sound exactly by 01's seven conditions.
-// Rests on nothing but the language.
+// Rests on nothing but the language and its library.
 #![tactic(auto)]
 
 ghost use Rattle.std.specs.Prelude.{◌≡◌, ◌&&◌, eqb, drop};
@@ -209,34 +209,34 @@ pub struct Lease {
 
 #[derive(Clone, Copy, Debug, PartialEq, Eq)]
 pub enum Reason {
-    Ok = 0,
-    Bound = 1,
-    Stale = 2,
-    Authority = 3,
-    Duplicate = 4,
-    Precondition = 5,
-    OldSequence = 6,
-    Epoch = 7,
-    UnknownCapability = 8,
-    TooEarly = 9,
-    Invalid = 10,
-    Estop = 11,
-    Faulted = 12,
-    Watchdog = 13,
-    LeaseExpired = 14,
-    StreamExpired = 15,
-    Driver = 16,
-    Verification = 17,
-    Clock = 18,
-    Busy = 19,
-    Canceled = 20,
-    InvalidStorm = 21,
-    StateStale = 22,
-    BootMismatch = 23,
-    LeaseGranted = 24,
-    LeaseRenewed = 25,
-    Recovered = 26,
-    Startup = 27,
+    Ok,
+    Bound,
+    Stale,
+    Authority,
+    Duplicate,
+    Precondition,
+    OldSequence,
+    Epoch,
+    UnknownCapability,
+    TooEarly,
+    Invalid,
+    Estop,
+    Faulted,
+    Watchdog,
+    LeaseExpired,
+    StreamExpired,
+    Driver,
+    Verification,
+    Clock,
+    Busy,
+    Canceled,
+    InvalidStorm,
+    StateStale,
+    BootMismatch,
+    LeaseGranted,
+    LeaseRenewed,
+    Recovered,
+    Startup,
 }
 
 // A number that stands for nothing.
@@ -247,7 +247,36 @@ impl From<Reason> for u16 {
     ghost from_gives = { λ reason n. n ≡ number reason };
 
     fn from(reason: Reason) -> u16 {
-        reason as u16
+        match reason {
+            Reason::Ok => 0,
+            Reason::Bound => 1,
+            Reason::Stale => 2,
+            Reason::Authority => 3,
+            Reason::Duplicate => 4,
+            Reason::Precondition => 5,
+            Reason::OldSequence => 6,
+            Reason::Epoch => 7,
+            Reason::UnknownCapability => 8,
+            Reason::TooEarly => 9,
+            Reason::Invalid => 10,
+            Reason::Estop => 11,
+            Reason::Faulted => 12,
+            Reason::Watchdog => 13,
+            Reason::LeaseExpired => 14,
+            Reason::StreamExpired => 15,
+            Reason::Driver => 16,
+            Reason::Verification => 17,
+            Reason::Clock => 18,
+            Reason::Busy => 19,
+            Reason::Canceled => 20,
+            Reason::InvalidStorm => 21,
+            Reason::StateStale => 22,
+            Reason::BootMismatch => 23,
+            Reason::LeaseGranted => 24,
+            Reason::LeaseRenewed => 25,
+            Reason::Recovered => 26,
+            Reason::Startup => 27,
+        }
     }
 }
 
