@@ -1,5 +1,6 @@
 -- A list from an index on; the library's comparing and adding up by the definitions. Assumes nothing.
 use Prim.Native.Nat.{ℕ, ◌+◌, ◌<◌}
+use mathlib.Core.Bool.{Bool, true, false, ◌&&◌}
 use mathlib.Core.List.{List, [], ◌∷◌}
 use mathlib.Core.Path.{◌≡◌, refl}
 use native.Mathlib.Omega.{arith}
@@ -14,6 +15,17 @@ use Rattle.card.specs.Card.{same}
 -- the rest of a list, from an index on and from the next
 pub rest_at : (l : List ℕ) (i : ℕ) → i < length l → drop i l ≡ get_or l i 0 ∷ drop (i + 1) l
 rest_at l i h = rw (add-one, drop-cons l i 0)
+
+pub same-uneven : (a b : List ℕ) → (length a ≡ length b → ⊥) → same a b ≡ false
+unfolding same
+same-uneven [] [] h = absurd (h refl)
+same-uneven [] (y ∷ ys) h = refl
+same-uneven (x ∷ xs) [] h = refl
+same-uneven (x ∷ xs) (y ∷ ys) h = go (eqb x y) (same-uneven xs ys (λ e. h (omega arith)))
+  where
+    go : (t : Bool) → same xs ys ≡ false → (t && same xs ys) ≡ false
+    go true e = e
+    go false e = refl
 
 eqb-swapped : (x y : ℕ) → eqb y x ≡ eqb x y
 eqb-swapped x y = grind (arith, nat_tests)

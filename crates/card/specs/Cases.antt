@@ -1,7 +1,7 @@
 -- Worked receipts: one table, with the bytes and the words of each, and one fact about it, which antt computes. The other vectors of docs/CARD.md are
 -- run by a program (crates/card_main).
 use Rattle.std.specs.Prelude.{ℕ, true, false, List, [], ◌∷◌, ◌++◌, map, ◌≡◌, refl, pos, negsuc}
-use Rattle.model.specs.Decisions.{decision_number, decision_at}
+use Rattle.model.specs.Decisions.{decision_number}
 use Rattle.model.specs.declared.Decision.TheVariants as Decision
 use Rattle.model.specs.declared.Reason.TheVariants as Reason
 use Rattle.model.specs.declared.Receipt.{Receipt}

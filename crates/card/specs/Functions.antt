@@ -1,5 +1,5 @@
 -- What the functions of src/ hand out and leave, by the definitions of `Card`.
-use Rattle.std.specs.Prelude.{ℕ, zero, suc, ◌+◌, ◌/◌, ◌^◌, ◌<◌, ◌≤◌, Bool, cond, List, [], ◌∷◌, ◌++◌, ◌≡◌, eqb, leb, length, take, drop, get_or, Option, Some, None, Result, Ok, Err}
+use Rattle.std.specs.Prelude.{ℕ, zero, suc, ◌+◌, ◌/◌, ◌^◌, ◌<◌, ◌≤◌, Bool, cond, List, [], ◌∷◌, ◌++◌, ◌≡◌, eqb, leb, length, take, drop, get_or, Option, Some, None, unwrap_or, Result, Ok, Err}
 use Rattle.words.specs.Words.{over}
 use Rattle.card.specs.declared.CardError.{CardError}
 use Rattle.card.specs.declared.Plan.{Plan}
@@ -22,7 +22,7 @@ counted card at bs = cond (has_room card at bs) (Some (length bs)) None
 
 -- the same as a number, 0 for none
 unfoldable pub count : List ℕ → ℕ → List ℕ → ℕ
-count card at bs = cond (has_room card at bs) (length bs) 0
+count card at bs = unwrap_or (counted card at bs) 0
 
 -- the map of 22 numbers and the length of their body, which a byte holds
 pub record Plans (ns : List ℕ) (plan : Plan) : Type 0 where

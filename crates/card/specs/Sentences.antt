@@ -15,7 +15,7 @@ use Rattle.model.specs.contracts.Receipt.{the_row}
 use Rattle.model.specs.declared.Receipt.{Receipt}
 use Rattle.words.specs.Words.{Bytes, little_end, little_number, bytes_of, over}
 use Rattle.card.specs.Card.{widths, numbers_of, body_of, sum, record_of, records_of, head, card_of, past_end, unsound, Found, Ends, Accepts, Refuses, entry_in, Contents, holding, has_head, read_card}
-use Rattle.card.specs.Functions.{has_room, written, count, read_at, read_all}
+use Rattle.card.specs.Functions.{has_room, written, counted, count, read_at, read_all}
 use Rattle.card.specs.Wire.{wire_words, wire_receipt, wire_count, wire_written, Hosted, last_answer, last_place}
 use Rattle.card.specs.Claim.{Fits, AllFit, Reads, CardClaim}
 
@@ -190,7 +190,7 @@ module _ (c : CardClaim) where
   pub filed : (r : Receipt) (card : List ℕ) → Fits r → 129 ≤ length card
       → (wire_count (wire_receipt (bytes_of (wire_words r))) card ≡ length (record_of r))
       × (wire_written (wire_receipt (bytes_of (wire_words r))) card ≡ over card 0 (record_of r))
-  unfolding wire_count wire_written count written has_room
+  unfolding wire_count wire_written count counted written has_room
   filed r card f h =
       let w = c.words-read r f in
       let e = le-leb (0 + length (record_of r)) (length card) (omega (arith, (c.sized r).most)) in
@@ -199,7 +199,7 @@ module _ (c : CardClaim) where
   -- and a record that is written at a place is read there, and the next place is behind it
   pub read-where-written : (card : List ℕ) (at : ℕ) (r : Receipt) → Fits r → at + 129 ≤ length card
       → read_at (written card at (record_of r)) at ≡ Ok (Some (record { receipt = r; next = at + length (record_of r) }))
-  unfolding count has_room
+  unfolding count counted has_room
   read-where-written card at r f h =
       let e = le-leb (at + length (record_of r)) (length card) (omega (arith, (c.sized r).most)) in
       rw e at (c.placed card at r f e)

@@ -5,9 +5,8 @@
 #![tactic(auto)]
 
 ghost use Rattle.std.specs.Prelude.{◌+◌, ◌%◌, ◌≤◌, ◌<◌, true, ◌≡◌, length, drop, get_or, None, MatchOption, IsTrue};
-ghost use Rattle.words.specs.Signs.{unsigned as unsigned_of};
 ghost use Rattle.words.specs.Words.{words_at, bytes_of, over};
-ghost use Rattle.card.specs.Card.{widths, pair_number, pair_of, bit as bit_of, numbers_of, receipt_with, receipt_of, fields_of, sum as sum_of, record_of, head, field_in, fields_in, is_framed, receipt_in, same, has_head};
+ghost use Rattle.card.specs.Card.{widths, pair_number, pair_of, numbers_of, receipt_with, receipt_of, fields_of, sum as sum_of, record_of, head, field_in, fields_in, is_framed, receipt_in, has_head};
 ghost use Rattle.card.specs.Functions.{written, counted, count as count_of, error_number, read_at, Reached, Plans, Fit};
 ghost use Rattle.card.specs.Wire.{wire_limits, within, wire_numbers, wire_receipt, wire_words, wire_count, wire_written, head_answer, wire_answer, wire_read};
 
@@ -45,7 +44,7 @@ impl CardError {
 pub fn has_head(card: &[u8]) -> bool
     ensures { result ≡ has_head card.now }
 {
-    card.starts_with(b"RCT1")
+    card.len() >= 4 && card[..4].starts_with(b"RCT1")
 }
 
 // 4; none where there is no room, and nothing is written.
@@ -370,8 +369,9 @@ pub fn read_at(card: &[u8], at: usize) -> Result<Option<Record>, CardError>
     let start = at + 1;
     let end = start + length;
     let next = end + 2;
-    let held = receipt_in(length, &card[start..end], &card[end..next]);
-    let receipt = held.ok_or(CardError::Unsound)?;
+    let Some(receipt) = receipt_in(length, &card[start..end], &card[end..next]) else {
+        return Err(CardError::Unsound);
+    };
     Ok(Some(Record { receipt, next }))
 }
 

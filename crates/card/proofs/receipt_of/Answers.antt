@@ -1,4 +1,4 @@
-use mathlib.Core.Path.{refl, ap, sym, ◌∙◌}
+use mathlib.Core.Path.{refl, ap, ◌∙◌}
 use Rattle.std.specs.Prelude.{Some}
 use Rattle.card.specs.Card.{widths}
 use Rattle.card.proofs.FieldLaws.{fit-nth}
