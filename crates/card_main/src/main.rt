@@ -4,7 +4,7 @@
 // `tools/card/run vectors DIR` writes: the answers are those of the independent reader and writer of tools/card.
 #![tactic(auto)]
 
-ghost use Rattle.std.specs.Prelude.{◌+◌, ◌<◌, ◌≤◌, ◌≡◌, length, IfSome};
+ghost use Rattle.std.specs.Prelude.{◌+◌, ◌*◌, ◌%◌, ◌<◌, ◌≤◌, ◌≡◌, length, IfSome, IfOk};
 
 use std::io;
 use std::io::Read;
@@ -20,6 +20,30 @@ fn value(byte: u8) -> Option<u8>
         b'a'..=b'f' => Some(byte - b'a' + 10),
         _ => None,
     }
+}
+
+// A digit moved in at the low end: with the second one nothing is left of what stood there before.
+fn moved_in(byte: u8, digit: u8) -> u8
+    requires { digit < 16 }
+    ensures { result ≡ (16 * byte + digit) % 256 }
+{
+    ((16 * u16::from(byte) + u16::from(digit)) % 256) as u8
+}
+
+// The next digit of a file, where the byte is one and there is room; how many there are then.
+fn put_digit(card: &mut [u8], digits: usize, byte: u8) -> usize
+    requires { digits ≤ 2 * length card.old }
+    ensures { result ≤ 2 * length card.old }
+{
+    let place = digits / 2;
+    let Some(digit) = value(byte) else {
+        return digits;
+    };
+    if place >= card.len() {
+        return digits;
+    }
+    card[place] = moved_in(card[place], digit);
+    digits + 1
 }
 
 // what is read of it -----------------------------------------------------------------------------------------------------
@@ -87,33 +111,40 @@ fn read(rt: &HostRuntime, card: &[u8]) -> io::Result<()> {
     }
 }
 
-// Reads the file of each line. There is room for 1,024 bytes of a file: what is beyond is not read.
-fn run(rt: &HostRuntime, text: &[u8]) -> io::Result<()> {
-    let mut card = Vec::new(rt.alloc());
-    let mut high = None;
+// Reads the file of each line.
+fn run(rt: &HostRuntime, text: &[u8], card: &mut [u8]) -> io::Result<()> {
+    let mut digits = 0;
     for &byte in text {
         if byte == b'\n' {
-            read(rt, &card)?;
-            card.clear();
-            high = None;
-        } else if let Some(low) = value(byte)
-            && card.len() < 1024
-        {
-            high = match high {
-                None => Some(low),
-                Some(high) => {
-                    card.push(high << 4 | low)?;
-                    None
-                }
-            };
+            read(rt, &card[..digits / 2])?;
+            digits = 0;
+        } else {
+            digits = put_digit(card, digits, byte);
         }
     }
     Ok(())
 }
 
-// There is room for 16,384 bytes of text: what is beyond is not read.
+// Reads until there is no more room, or nothing more to read; how many bytes there are then. By hand, since nothing here has a heap: the
+// library reads to an end into a `Vec`, or through a buffer of its own.
+fn read_full<R: Read>(input: &mut R, buffer: &mut [u8]) -> io::Result<usize>
+    ensures { IfOk result (λ n. n ≤ length buffer.new) }
+{
+    let mut n = 0;
+    while n < buffer.len() {
+        let count = input.read(&mut buffer[n..])?;
+        if count == 0 {
+            return Ok(n);
+        }
+        n += count;
+    }
+    Ok(n)
+}
+
+// There is room for 16,384 bytes of text and 1,024 of a file: what is beyond is not read.
 fn main(rt: HostRuntime) -> io::Result<()> {
-    let mut text = Vec::new(rt.alloc());
-    rt.stdin().take(16384).read_to_end(&mut text)?;
-    run(&rt, &text)
+    let mut input = [0u8; 16384];
+    let mut card = [0u8; 1024];
+    let length = read_full(&mut rt.stdin(), &mut input)?;
+    run(&rt, &input[..length], &mut card)
 }

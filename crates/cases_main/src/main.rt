@@ -2,8 +2,10 @@
 // examples/cases.life and `stdout` from what the Rust original answers (docs/WIRE.md).
 #![tactic(auto)]
 
+ghost use Rattle.std.specs.Prelude.{◌≤◌, length, IfOk};
+
+use std::io;
 use std::io::Read;
-use std::{fmt, io};
 
 // What an output record says.
 fn kind_name(kind: u32) -> &'static str {
@@ -33,33 +35,46 @@ fn low_half(word: &[u8]) -> u32 {
         .map_or(0, |bytes| u32::from_le_bytes(*bytes))
 }
 
-// The bytes of an output record. Its line: the kind, then its words from the second on.
-#[derive(Drop)]
-struct Record<'a>(&'a [u8]);
-
-impl<'a> fmt::Display for Record<'a> {
-    fn fmt<W: fmt::Write>(&self, f: &mut fmt::Formatter<W>) -> fmt::Result {
-        f.write_str(kind_name(low_half(self.0)))?;
-        for word in self.0.chunks_exact(8).skip(1) {
-            let number = low_half(word);
-            write!(f, " {number}")?;
-        }
-        Ok(())
+// A line of the bytes of an output record: the kind, then its words from the second on, each in a write of its own. As a `Display` the line
+// would be one write, and one that fails would leave less of it.
+fn print_record(rt: &HostRuntime, record: &[u8]) -> io::Result<()> {
+    let kind = kind_name(low_half(record));
+    print!(rt; "{kind}")?;
+    for word in record.chunks_exact(8).skip(1) {
+        let number = low_half(word);
+        print!(rt; " {number}")?;
     }
+    println!(rt;)
 }
 
 // Runs the lives and prints the answers.
 fn run(rt: &HostRuntime, input: &[u8], output: &mut [u8]) -> io::Result<()> {
     let written = wire::rolthai_run(input, output);
     for record in output[..written].chunks_exact(208) {
-        println!(rt; "{}", Record(record))?;
+        print_record(rt, record)?;
     }
     Ok(())
 }
 
+// Reads until there is no more room, or nothing more to read; how many bytes there are then. By hand, since nothing here has a heap: the
+// library reads to an end into a `Vec`, or through a buffer of its own.
+fn read_full<R: Read>(input: &mut R, buffer: &mut [u8]) -> io::Result<usize>
+    ensures { IfOk result (λ n. n ≤ length buffer.new) }
+{
+    let mut n = 0;
+    while n < buffer.len() {
+        let count = input.read(&mut buffer[n..])?;
+        if count == 0 {
+            return Ok(n);
+        }
+        n += count;
+    }
+    Ok(n)
+}
+
 fn main(rt: HostRuntime) -> io::Result<()> {
-    let mut input = Vec::new(rt.alloc());
-    rt.stdin().take(131072).read_to_end(&mut input)?;
+    let mut input = [0u8; 131072];
     let mut output = [0u8; 212992];
-    run(&rt, &input, &mut output)
+    let length = read_full(&mut rt.stdin(), &mut input)?;
+    run(&rt, &input[..length], &mut output)
 }
