@@ -564,7 +564,9 @@ fn go_on(rt: &mut Runtime) -> Answer
     }
 }
 
-// The call in hand with its opening tick.
+// The call in hand with its opening tick. Kept out of its callers: put into `submit`, it keeps that one from being put into a host's loop,
+// and a rejected order takes 1.4 times as long, since its words are stored and copied at once (docs/DESIGN-PASS.md).
+#[inline(never)]
 fn run(rt: &mut Runtime, time: u64) -> Answer
     requires { Good rt.old }
     ensures { MovesIn rt.new result (proceed (tick_rule time (book_on rt.old) (after_tick (asked_at time rt.old)))) }
