@@ -184,9 +184,9 @@ part-first w b x (suc m) h r =
 pub table-word : {A : Type 0} (d : List ℕ → A) (w : List ℕ) (off k n i x : ℕ) → i < n → 0 < k → off + n * k ≤ length w
     → table d (put w (off + i * k) (x ∷ [])) off k n ≡ set (table d w off k n) i (d (set (part w (off + i * k) k) 0 x))
 unfolding table
-table-word d w off k n i x less Some r =
-    tab-set _ _ n i (d (set (part w (off + i * k) k) 0 x)) (λ h. ap d (part-first w (off + i * k) x k Some (omega (arith, ends k less))))
+table-word d w off k n i x less some r =
+    tab-set _ _ n i (d (set (part w (off + i * k) k) 0 x)) (λ h. ap d (part-first w (off + i * k) x k some (omega (arith, ends k less))))
     (λ j h ne.
     ap d
     (part-away w (off + i * k) (x ∷ []) (off + j * k) k
-    (⊎_elim (λ a. inl (omega (arith, ends k a))) (λ a. inr (omega (arith, ends k a, Some))) (apart j i ne))))
+    (⊎_elim (λ a. inl (omega (arith, ends k a))) (λ a. inr (omega (arith, ends k a, some))) (apart j i ne))))

@@ -1,5 +1,5 @@
 // Words that a host lends, by regions (specs/Cells): a run of words is written at a place, a window of them read. Promises: what is written stands
-// there and nothing else is altered, and what is read is what stands there. Rests on nothing but the language.
+// there and nothing else is altered, and what is read is what stands there. Rests on nothing but the language and its library.
 #![tactic(auto)]
 
 ghost use Rattle.std.specs.Prelude.{◌≡◌, ◌+◌, ◌≤◌, length};

@@ -29,7 +29,7 @@ use Rattle.host_records.specs.Standings.{Goes}
 use Rattle.host_records.specs.Claim.{begun_by, Stepping, SteppedTo, here as stepped, then as and-on}
 use Rattle.host_records.proofs.Theorem.{stepped-to}
 use Rattle.host.specs.Host.{fault_of, number_of, start_in, Served, Asks, Made, Wipes}
-use Rattle.host.specs.Claim.{HostStep, called, replied, shown, HostLife, outputs_of, life_of, HostClaim, Whole, RecordSteps, None, one_more}
+use Rattle.host.specs.Claim.{HostStep, called, replied, shown, HostLife, outputs_of, life_of, HostClaim, Whole, RecordSteps, none, one_more}
 use Rattle.host.proofs.Lent.{fault-none, whole_of, first_of, lack-none, at_none}
 
 -- the number of an answer says which it is ----------------------------------------------------------------------------------
@@ -164,7 +164,7 @@ turned-away-leaves-every-word c = whole_from (fit-first c) c.run
 -- a host that steps by records -------------------------------------------------------------------------------------------
 
 by-records : {w last : List ℕ} {rs : List Record} {outs : List (List ℕ)} → fault_of w ≡ 0 → RecordSteps w rs outs last → Stepping w rs outs last
-by-records e None = stepped
+by-records e none = stepped
 by-records e (one_more {w = w} {w' = w'} {f = f} {out = out} p n room more) =
     let s = p.stepped (sym (at_none w f out (lack-none w out (sym e) refl room) refl n)) in
     let k = s.writes in

@@ -60,6 +60,6 @@ Whole (then {s = w} {t = next} {out = out} one more) = (took_effect out ≡ fals
 
 -- records in order, in slices of 16 words and with room for their answers, each on the words that the one before left
 pub data RecordSteps : List ℕ → List Record → List (List ℕ) → List ℕ → Type 0 where
-  None : {w : List ℕ} → RecordSteps w [] [] w
+  none : {w : List ℕ} → RecordSteps w [] [] w
   one_more : {w w' last f out out' : List ℕ} {r : ℕ} {rs : List Record} {outs : List (List ℕ)} → Records w w' f out out' r → length f ≡ 16 → 26 ≤ length out
       → RecordSteps w' rs outs last → RecordSteps w (decode (part f 0 16) ∷ rs) (part out' 0 26 ∷ outs) last

@@ -106,9 +106,9 @@ cleared_more w w' i long h a =
       first = get_or-set_other w' i 0 0 0 (λ e. omega (arith, e, low)) ∙ a.first;
       long = length-set w' i 0 ∙ a.long;
       zero =
-          λ j Some less. below_more (λ (k : ℕ). 1 ≤ k → get_or (set w' i 0) k 0 ≡ 0) i
+          λ j some less. below_more (λ (k : ℕ). 1 ≤ k → get_or (set w' i 0) k 0 ≡ 0) i
           (λ k l one. get_or-set_other w' i k 0 0 (λ e. omega (arith, e, l)) ∙ a.zero k one l)
-          (λ one. get_or-set_same w' i 0 0 (omega (arith, n, long, h))) j less Some;
+          (λ one. get_or-set_same w' i 0 0 (omega (arith, n, long, h))) j less some;
       rest = λ j k. get_or-set_other w' i j 0 0 (λ e. omega (arith, e, k, h)) ∙ a.rest j k;
     }
 

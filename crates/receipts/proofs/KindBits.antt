@@ -144,6 +144,9 @@ module _ (c x t : ℕ) (top : Top x t) (h : x < 2 ^ suc c) where
   drop-small = omega (arith, top.power, top.low, top.high, pow-succ' 2 top.place, pow_mono place-below)
 
 module _ (x : ℕ) (h : 0 < x) (l : x < 2 ^ 64) where
+  pub top-place : count_leading_zeros 64 x ≤ 63
+  top-place = let t = leading_top 64 x h l in omega (arith, t.1)
+
   pub top_of : Top x ((1 * 2 ^ (63 - count_leading_zeros 64 x)) % 2 ^ 64)
   top_of =
       let t = leading_top 64 x h l in

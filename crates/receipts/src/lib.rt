@@ -3,7 +3,7 @@
 // a word of kind bits says how the two merge into admission order.
 // Promises: a push keeps what the rule of 01 says (`keep 64`: a full ring drops its oldest rejection, else its oldest), whatever the slots
 // hold; `place_of` and `Ring::receipt` read the receipt at a place from the oldest, or none at or past the count. Each asks the one soundness
-// that `empty` sets up and every push keeps. Rests on `keep` of the crate rules, and on nothing but the language besides.
+// that `empty` sets up and every push keeps. Rests on `keep` of the crate rules, and on nothing but the language and its library besides.
 #![tactic(auto)]
 
 ghost use Rattle.std.specs.Prelude.{◌≡◌, ◌<◌, ◌≤◌, length, slice_get};

@@ -116,9 +116,9 @@ unfolding keep evict
 makes-room rs r = go (ltb (length rs) receipt_capacity) refl
   where
     without : 64 ≤ length rs → (qs : List Receipt) → rs ≡ qs → any rejected rs ≡ false → MakesRoom rs (drop 1 rs)
-    without full [] e None = absurd (omega (arith, ap length e))
-    without full (q ∷ qs) e None =
-        subst (MakesRoom rs) (ap (drop 1) (sym e)) (drops-oldest q qs full e (none-rejected rs None))
+    without full [] e none = absurd (omega (arith, ap length e))
+    without full (q ∷ qs) e none =
+        subst (MakesRoom rs) (ap (drop 1) (sym e)) (drops-oldest q qs full e (none-rejected rs none))
 
     full-ring : 64 ≤ length rs → (t : Bool) → any rejected rs ≡ t
         → (left : List Receipt) × MakesRoom rs left × (cond t (drop_first_rejected rs) (drop 1 rs) ++ (r ∷ []) ≡ left ++ (r ∷ []))

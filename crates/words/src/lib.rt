@@ -2,7 +2,7 @@
 // of any width up to 8 bytes.
 // Promises: what is read is the definition's number of the bytes there; what is written stands at its place and nothing else is altered; a signed number and its
 // 32 bits determine each other.
-// Rests on nothing but the language.
+// Rests on nothing but the language and its library.
 #![tactic(auto)]
 
 ghost use Rattle.std.specs.Prelude.{◌≡◌, ◌+◌, ◌*◌, ◌≤◌, length};

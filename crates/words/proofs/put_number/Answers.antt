@@ -21,7 +21,7 @@ byte-more s i w n e h =
 bytes-all : (s : List ℕ) (i w n : ℕ) (all : List ℕ) → length s ≡ w → w ≤ i → take i s ++ little_end (w - i) n ≡ all → s ≡ all
 unfolding little_end
 bytes-all s i w n all e h p =
-    let None : w - i ≡ 0 = omega arith in sym (append-nil s) ∙ (rw (None, take_all i s (omega arith)) at p)
+    let none : w - i ≡ 0 = omega arith in sym (append-nil s) ∙ (rw (none, take_all i s (omega arith)) at p)
 
 -- a part with the bytes in it is the bytes written over the whole
 put_mid-over : (out : List ℕ) (at k : ℕ) (bs : List ℕ) → k ≡ length bs → put_mid at k out bs ≡ over out at bs
