@@ -5,7 +5,7 @@ use mathlib.Core.List.{[], ◌∷◌, ◌++◌}
 use Rattle.std.proofs.Common.{⊎_elim, sym, ◌∙◌, eqb-true}
 use Rattle.std.specs.Prelude.{Option, Some, None}
 use Rattle.std.proofs.lemmas.Option.{none-some}
-use Rattle.model.proofs.Options.{some-injective}
+use Rattle.std.proofs.lemmas.Option.{same_Some}
 use Rattle.std.proofs.Math.Path.{refl, ap}
 use Rattle.std.proofs.lemmas.Bool.{eqb-false}
 use Rattle.std.proofs.Math.Dec.{eqb}
@@ -60,7 +60,7 @@ module _ (axis : ℕ) where
       → GrantedTo axis t (Handed (ItemRecord r) ∷ l)
   unfolding tenancy_of
   now-granted t r l g on (Some (Acquire q now)) call e =
-      let same = some-injective _ _ e in
+      let same = same_Some _ _ e in
       record {
         later = [];
         receipt = r;
@@ -101,7 +101,7 @@ module _ (axis : ℕ) where
   unfolding until
   moved-end time None t e = absurd (none-some _ e)
   moved-end time (Some x) t e =
-      let same = some-injective _ _ e in
+      let same = same_Some _ _ e in
       record {
         before = x;
         was = refl;

@@ -3,7 +3,7 @@
 use Rattle.std.specs.Prelude.{ℕ, ◌+◌, ◌-◌, ◌<◌, ◌≤◌, true, false, List, [], ◌∷◌, ◌++◌, ◌⊎◌, ◌≢◌, ◌≡◌, refl, ℤ}
 use Rattle.std.proofs.Common.{inl, inr, sym, ◌∙◌, subst, arith}
 use Rattle.std.specs.Prelude.{Option, Some, None}
-use Rattle.model.proofs.Options.{some-ne-none, some-injective}
+use Rattle.std.proofs.lemmas.Option.{none-some, same_Some}
 use Rattle.std.proofs.Math.Path.{ap}
 use Rattle.std.specs.Int.Bits.{bit_and}
 use Rattle.model.specs.declared.Capability.{Capability}
@@ -40,7 +40,7 @@ module _ (facts : (s : Start) (h : History) → StateFacts s h) where
   leased-if-armed s h b e armed =
       let l = ((facts s h).armed-exactly b e).0 armed in
       let shown : book_in (phase_after s h) ≡ Some b = ap book_in e in
-      (l.0, l.1, l.2, (facts s h).on-used-axis b shown l.0 (λ n. some-ne-none _ (sym l.2 ∙ n)))
+      (l.0, l.1, l.2, (facts s h).on-used-axis b shown l.0 (λ n. none-some _ (sym n ∙ l.2)))
 
   -- Faulted or Estopped there is no lease between calls; in SafeIdle there is none at any time
   pub none-while-stopped : (s : Start) (h : History) (b : Book) → phase_after s h ≡ Idle b → Unready b.state → NoLease b
@@ -76,10 +76,10 @@ module _ (facts : (s : Start) (h : History) → StateFacts s h) where
       where
         go : (o : Option Lease) → lease_at b' axis ≡ o → (lease_at b' axis ≡ None) × ((reason : Reason) × Mem (ItemFallback axis reason) items)
         go None e =
-            (e, ((facts s h).tick-revokes b idle now replies items b' run).fell-back axis (λ n. some-ne-none _ (sym q ∙ n)) e)
+            (e, ((facts s h).tick-revokes b idle now replies items b' run).fell-back axis (λ n. none-some _ (sym n ∙ q)) e)
         go (Some y) e =
             let k = (facts s h).tick-revokes b idle now replies items b' run in
-            let same : x ≡ y = some-injective _ _ (sym q ∙ k.stood axis y e) in
+            let same : x ≡ y = same_Some _ _ (sym q ∙ k.stood axis y e) in
             absurd (omega (arith, subst (λ (z : Lease). now < z.expires_at) (sym same) (k.unexpired axis y e)))
 
     -- after a gap over the watchdog's, or at a time before the last tick, none stands; and where one stands the runtime is Armed
